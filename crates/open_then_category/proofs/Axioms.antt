@@ -8,7 +8,7 @@ use Rattle.office_base.specs.declared.person.ListId.{ListId}
 use Rattle.office_base.specs.declared.person.Person.{Person}
 use Rattle.office_base.specs.declared.step.Step.{Step}
 use Rattle.office_base.specs.declared.step.StepKind.{StepKind}
-use Rattle.office_base.specs.declared.step.StepKind.TheVariants.{Open, Ews as EwsStep, Obc as ObcStep, Sc as ScStep, St as StStep, Dereserved}
+use Rattle.office_base.specs.declared.step.StepKind.TheVariants.{Open, Dereserved}
 use Rattle.office_base.proofs.Lists.{length_take_most}
 use Rattle.placements.proofs.Filters.{among_filter_from}
 use Rattle.placements.proofs.Greatest.{honoured-exists}
@@ -22,8 +22,9 @@ use Rattle.programme_lists.specs.Programme.{Admissions, IsProgrammeChoice, admit
 use Rattle.open_then_category.specs.Laws.{ChoicesMeetAxioms, IsOverAndAbove, MeetsStepAxioms, OpenComesFirst, whole_step}
 use Rattle.open_then_category.specs.StepLaws.{AreLawful}
 use Rattle.open_then_category.proofs.Last.{all_chosen}
-use Rattle.open_then_category.proofs.Once.{ranked_one_step}
-use Rattle.open_then_category.proofs.ProgrammeLaws.{all_among, filtered_step, last_sublist, rest_of}
+use Rattle.open_then_category.proofs.Once.{each_sound, ranked_one_step}
+use Rattle.open_then_category.proofs.ProgrammeLaws.{filtered_step, last_sublist}
+use Rattle.open_then_category.proofs.Rows.{open_choice, rest_of}
 use Rattle.programme_lists.proofs.Walk.{ranked_without}
 
 -- ---- without protections the best are the choice
@@ -70,14 +71,10 @@ step_axioms laws step chosen c = record {
 module _ (version : ℕ) (seats : ProgrammeSeats) (applicants : List Person) (admissions : Admissions) (ok : AreProgrammeSeats seats) (ranked : AreRanked seats.list applicants)
     (choice : IsProgrammeChoice version seats applicants admissions) where
   rest_ranked : AreRanked seats.list (rest_of applicants admissions)
-  rest_ranked = ranked_without seats.list applicants admissions.open_step ranked
+  rest_ranked = ranked_without seats.list applicants (admissions Open) ranked
 
   chosen_at : (kind : StepKind) → Chosen (whole_step version seats applicants admissions kind) (admitted_by admissions kind)
-  chosen_at Open = record { is_step = filtered_step seats.list (seats_of seats Open) _ applicants ok.list (ok.steps Open) ranked; choice = choice.open_step }
-  chosen_at EwsStep = record { is_step = filtered_step seats.list (seats_of seats EwsStep) _ (rest_of applicants admissions) ok.list (ok.steps EwsStep) rest_ranked; choice = choice.ews }
-  chosen_at ObcStep = record { is_step = filtered_step seats.list (seats_of seats ObcStep) _ (rest_of applicants admissions) ok.list (ok.steps ObcStep) rest_ranked; choice = choice.obc }
-  chosen_at ScStep = record { is_step = filtered_step seats.list (seats_of seats ScStep) _ (rest_of applicants admissions) ok.list (ok.steps ScStep) rest_ranked; choice = choice.sc }
-  chosen_at StStep = record { is_step = filtered_step seats.list (seats_of seats StStep) _ (rest_of applicants admissions) ok.list (ok.steps StStep) rest_ranked; choice = choice.st }
+  chosen_at Open = record { is_step = filtered_step seats.list (seats_of seats Open) _ applicants ok.list (ok.steps Open) ranked; choice = open_choice version seats applicants admissions choice }
   chosen_at Dereserved =
       let people = people_of seats.list applicants admissions Dereserved in
       let people_ranked = ranked_sublist seats.list people applicants ranked (last_sublist seats.list applicants admissions) in
@@ -86,20 +83,21 @@ module _ (version : ℕ) (seats : ProgrammeSeats) (applicants : List Person) (ad
         is_step = record { list = ok.list; people = people_ranked; protections = omega arith };
         choice = subst (IsStepChoice step) (sym choice.dereserved) (best_chosen seats.list (unfilled version seats admissions) people people_ranked);
       }
+  chosen_at kind = record { is_step = filtered_step seats.list (seats_of seats kind) _ (rest_of applicants admissions) ok.list (ok.steps kind) rest_ranked; choice = choice.own kind refl }
 
   over_and_above : AreLawful → (kind : StepKind) (person : Person) → kind ≢ Open → IsAmong person applicants → IsAmong person (admitted_by admissions kind) → is_common seats.list person ≡ true
       → IsOverAndAbove seats admissions person
   over_and_above laws kind person other there here common =
       let open_step = step_axioms laws _ _ (chosen_at Open) in
-      let gone : IsAmong person admissions.open_step → ⊥ = λ taken. other (ranked_one_step version seats applicants admissions person kind Open choice here taken) in
+      let gone : IsAmong person (admissions Open) → ⊥ = λ taken. other (ranked_one_step version seats applicants admissions person kind Open choice here taken) in
       let stands = among_filter_from (is_common seats.list) person applicants there common in
       record {
-        full = filled (length admissions.open_step) (seats_of seats Open).seats choice.open_step.may.seats (λ empty. gone (open_step.non_wasteful empty person stands));
+        full = filled (length (admissions Open)) (seats_of seats Open).seats (open_choice version seats applicants admissions choice).may.seats (λ empty. gone (open_step.non_wasteful empty person stands));
         no_place = λ worse m n taken ahead his mine. open_step.no_justified_envy person worse m n stands gone taken ahead his mine;
         no_more = λ m n more mine.
             let people = filter (is_common seats.list) applicants in
             let k = honoured-exists (seats_of seats Open).protections people (chosen_at Open).is_step.people.distinct in
-            let low = monotone (seats_of seats Open).protections (person ∷ admissions.open_step) people m k.0 (stands, among_sublist admissions.open_step people choice.open_step.may.people) more k.1 in
+            let low = monotone (seats_of seats Open).protections (person ∷ (admissions Open)) people m k.0 (stands, among_sublist (admissions Open) people (open_choice version seats applicants admissions choice).may.people) more k.1 in
             let same = open_step.as_all k.0 n k.1 mine in
             omega (arith, low, same);
       }
@@ -111,19 +109,11 @@ module _ (version : ℕ) (seats : ProgrammeSeats) (applicants : List Person) (ad
       filled (suc a) (suc b) le never = ap suc (filled a b (omega (arith, le)) (λ less. never (omega (arith, less))))
 
   admitted_there : (kind : StepKind) (person : Person) → IsAmong person (admitted_by admissions kind) → IsAmong person applicants
-  admitted_there Open person here = widen person admissions.open_step applicants (all_among version seats applicants admissions choice).open_step here
-  admitted_there EwsStep person here = widen person admissions.ews applicants (all_among version seats applicants admissions choice).ews here
-  admitted_there ObcStep person here = widen person admissions.obc applicants (all_among version seats applicants admissions choice).obc here
-  admitted_there ScStep person here = widen person admissions.sc applicants (all_among version seats applicants admissions choice).sc here
-  admitted_there StStep person here = widen person admissions.st applicants (all_among version seats applicants admissions choice).st here
-  admitted_there Dereserved person here =
-      let people = people_of seats.list applicants admissions Dereserved in
-      let stands = widen person admissions.dereserved people (among_sublist admissions.dereserved people (chosen_at Dereserved).choice.may.people) here in
-      widen person people applicants (among_sublist people applicants (last_sublist seats.list applicants admissions)) stands
+  admitted_there kind person here = widen person (admissions kind) applicants (each_sound version seats applicants admissions kind ranked.distinct choice).within here
 
 pub choices_meet_axioms : AreLawful → ChoicesMeetAxioms
 choices_meet_axioms laws version seats applicants admissions ok ranked choice = record {
-  open_first = choice.open_step;
+  open_first = open_choice version seats applicants admissions choice;
   over_and_above = λ kind person other here common.
       over_and_above version seats applicants admissions ok ranked choice laws kind person other (admitted_there version seats applicants admissions ok ranked choice kind person here) here common;
   at_steps = λ kind. step_axioms laws _ _ (chosen_at version seats applicants admissions ok ranked choice kind);
@@ -141,7 +131,7 @@ pub open_comes_first : AreLawful → OpenComesFirst
 open_comes_first laws version other seats others applicants one two ok ranked same_list same_seats first second =
     let step = step_with seats.list (seats_of seats Open) (filter (is_common seats.list) applicants) in
     let is_step = filtered_step seats.list (seats_of seats Open) (is_common seats.list) applicants ok.list (ok.steps Open) ranked in
-    let its : IsStepChoice (step_with seats.list (seats_of seats Open) (filter (is_common seats.list) applicants)) two.open_step =
-    subst (λ (l : ListId). IsStepChoice (step_with l (seats_of seats Open) (filter (is_common l) applicants)) two.open_step) same_list
-    (subst (λ (s : Seating). IsStepChoice (step_with others.list s (filter (is_common others.list) applicants)) two.open_step) same_seats second.open_step) in
-    one_choice laws step one.open_step two.open_step is_step first.open_step its
+    let its : IsStepChoice (step_with seats.list (seats_of seats Open) (filter (is_common seats.list) applicants)) (two Open) =
+    subst (λ (l : ListId). IsStepChoice (step_with l (seats_of seats Open) (filter (is_common l) applicants)) (two Open)) same_list
+    (subst (λ (s : Seating). IsStepChoice (step_with others.list s (filter (is_common others.list) applicants)) (two Open)) same_seats (open_choice other others applicants two second)) in
+    one_choice laws step (one Open) (two Open) is_step (open_choice version seats applicants one first) its

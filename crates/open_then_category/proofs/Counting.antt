@@ -1,29 +1,37 @@
 -- How many pass a test: of people with one more, of people by merit, and of those who are left where some are taken.
-use Rattle.std.proofs.Common.{◌≡◌, ◌≤◌, ◌+◌, ℕ, Bool, true, false, cond, List, [], ◌∷◌, length, eqb, refl, sym, ap, subst, inl, inr, arith}
+use Rattle.std.proofs.Common.{◌≡◌, ◌≤◌, ◌+◌, ℕ, Bool, true, false, cond, List, [], ◌∷◌, map, length, eqb, refl, sym, ap, subst, inl, inr, arith}
+use Rattle.std.specs.Prelude.{sum}
 use Rattle.std.proofs.lemmas.Bool.{cond-true, cond-false, eq-eqb, or_parts}
-use Rattle.std.specs.List.{filter}
+use Rattle.std.specs.List.{AllZip, filter}
+use Rattle.office_base.specs.CategorySteps.{category_steps}
 use Rattle.office_base.specs.Limits.{most_step_seats}
-use Rattle.office_base.specs.Lists.{IsSublist}
+use Rattle.office_base.specs.Lists.{IsAmong, IsSublist}
 use Rattle.office_base.specs.Merit.{in_merit, is_better, with_person}
 use Rattle.office_base.specs.Person.{is_common}
 use Rattle.office_base.specs.StepChoice.{AreRanked}
-use Rattle.office_base.specs.declared.person.Category.TheVariants.{Ews, Obc, Sc, St}
+use Rattle.office_base.specs.declared.category_steps.CategoryStep.{CategoryStep}
 use Rattle.office_base.specs.declared.person.ListId.{ListId}
 use Rattle.office_base.specs.declared.person.Person.{Person}
 use Rattle.office_base.specs.declared.step.StepKind.{StepKind}
-use Rattle.office_base.specs.declared.step.StepKind.TheVariants.{Open, Ews as EwsStep, Obc as ObcStep, Sc as ScStep, St as StStep, Dereserved}
+use Rattle.office_base.specs.declared.step.StepKind.TheVariants.{Open, Dereserved}
 use Rattle.placements.proofs.Filters.{filter-sublist}
 use Rattle.placements.proofs.Ranks.{ranked_sublist}
 use Rattle.placements.proofs.Sublists.{IsSublist-nil, IsSublist-take, sublist_again}
 use Rattle.placements.specs.Ranks.{AreDistinct}
-use Rattle.programme_lists.specs.Programme.{Admissions, IsProgrammeChoice, admitted_by, is_of, is_taken, people_of, unfilled, without}
+use Rattle.seat_matrix.specs.Seats.{is_dereserved}
 use Rattle.seat_matrix.specs.declared.seats.ProgrammeSeats.{ProgrammeSeats}
-use Rattle.open_then_category.specs.State.{IsProgrammeKept, ProgrammeKept}
+use Rattle.programme_lists.specs.Listing.{ShowsStep}
+use Rattle.programme_lists.specs.Programme.{Admissions, IsProgrammeChoice, is_of, is_taken, left_by, people_of, unfilled, without}
+use Rattle.programme_lists.specs.declared.programme.StepList.{StepList}
+use Rattle.programme_lists.proofs.Table.{IsRow, row_facts}
+use Rattle.programme_lists.proofs.Walk.{minus, minus_is_without, not_taken, ranked_without}
+use Rattle.open_then_category.specs.State.{IsProgrammeKept, ProgrammeKept, admissions_of}
 use Rattle.open_then_category.specs.StepLaws.{AreLawful}
-use Rattle.open_then_category.specs.Tried.{HaveCome, common_taken, one_if}
+use Rattle.open_then_category.specs.Tried.{AreCounted, HaveCome, ShowCategories, common_taken, members_of, one_if}
 use Rattle.open_then_category.specs.declared.kept_lists.Tried.{Tried}
-use Rattle.open_then_category.proofs.ProgrammeLaws.{last_sublist, rest_of}
-use Rattle.programme_lists.proofs.Walk.{members_sublist, minus, minus_is_without, not_taken, obc_there, ranked_without, sc_there, st_there}
+use Rattle.open_then_category.proofs.Assemble.{row_shown}
+use Rattle.open_then_category.proofs.ProgrammeLaws.{last_sublist}
+use Rattle.open_then_category.proofs.Rows.{AreThere, are_there, each_kind, open_choice, rest_of, steps_of, sum-cons, there_next}
 
 -- how many of the people pass the test
 abbrev pub passed : (Person → Bool) → List Person → ℕ
@@ -91,102 +99,96 @@ passed_without test people taken distinct sub =
 
 -- ---- the steps of a programme
 
+-- those whom rows left, and those whom their steps admit
+rows_passed : (test : Person → Bool) (rows : List CategoryStep) (people : List Person) (a : Admissions) → AreThere rows people a
+    → passed test (left_by (steps_of rows) people a) + sum (map (λ kind. passed test (a kind)) (steps_of rows)) ≡ passed test people
+rows_passed test [] people a there = omega arith
+rows_passed test (row ∷ rows) people a there =
+    let now = passed_without test people (a row.step) there.distinct (there.within row (inl refl)) in
+    let later = rows_passed test rows (without people (a row.step)) a (there_next row rows people a there) in
+    let parts = sum-cons (passed test (a row.step)) (map (λ kind. passed test (a kind)) (steps_of rows)) in
+    omega (arith, now, later, parts)
+
 -- How many compete for the seats of each step, by how many came.
 pub record Counts (list : ListId) (people : List Person) (admissions : Admissions) : Type 0 where
   pub common : length (people_of list (in_merit list people) admissions Open) ≡ passed (is_common list) people
-  pub ews : length (people_of list (in_merit list people) admissions EwsStep) + passed (is_of Ews) admissions.open_step ≡ passed (is_of Ews) people
-  pub obc : length (people_of list (in_merit list people) admissions ObcStep) + passed (is_of Obc) admissions.open_step ≡ passed (is_of Obc) people
-  pub sc : length (people_of list (in_merit list people) admissions ScStep) + passed (is_of Sc) admissions.open_step ≡ passed (is_of Sc) people
-  pub st : length (people_of list (in_merit list people) admissions StStep) + passed (is_of St) admissions.open_step ≡ passed (is_of St) people
+  pub members : (row : CategoryStep) → IsRow row
+      → length (people_of list (in_merit list people) admissions row.step) + passed (is_of row.category) (admissions Open) ≡ passed (is_of row.category) people
   pub last : length (people_of list (in_merit list people) admissions Dereserved) + common_taken list admissions ≡ passed (is_common list) people
   -- and each step's persons are in merit order
-  pub ranked : (kind : StepKind) → AreRanked list (admitted_by admissions kind)
+  pub ranked : (kind : StepKind) → AreRanked list (admissions kind)
 
 pub counts : (version : ℕ) (seats : ProgrammeSeats) (people : List Person) (admissions : Admissions) → AreRanked seats.list (in_merit seats.list people)
     → IsProgrammeChoice version seats (in_merit seats.list people) admissions → Counts seats.list people admissions
 counts version seats people admissions ranked choice =
     let list = seats.list in
     let all = in_merit list people in
-    let open_sub : IsSublist admissions.open_step all = sublist_again admissions.open_step (filter (is_common list) all) all choice.open_step.may.people (filter-sublist (is_common list) all) in
-    let rest = rest_of all admissions in
-    let left1 = without rest admissions.ews in
-    let left2 = without left1 admissions.obc in
-    let left3 = without left2 admissions.sc in
-    let ranked0 = ranked_without list all admissions.open_step ranked in
-    let ranked1 = ranked_without list rest admissions.ews ranked0 in
-    let ranked2 = ranked_without list left1 admissions.obc ranked1 in
-    let ranked3 = ranked_without list left2 admissions.sc ranked2 in
-    let of_ews = choice.ews.may.people in
-    let of_obc = choice.obc.may.people in
-    let of_sc = choice.sc.may.people in
-    let of_st = choice.st.may.people in
-    let ews_sub = members_sublist Ews admissions.ews rest of_ews in
-    let obc_sub = obc_there rest admissions.ews admissions.obc ranked0.distinct of_ews of_obc in
-    let sc_sub = sc_there rest admissions.ews admissions.obc admissions.sc ranked0.distinct of_ews of_obc of_sc in
-    let st_sub = st_there rest admissions.ews admissions.obc admissions.sc admissions.st ranked0.distinct of_ews of_obc of_sc of_st in
-    let members = λ (test : Person → Bool).
-    let a = passed_without test all admissions.open_step ranked.distinct open_sub in
-    let b = passed_in_merit test list people in
-    let sum : passed test rest + passed test admissions.open_step ≡ passed test people = omega (arith, a, b) in sum in
     let common = is_common list in
-    let common_rest = members common in
-    let common1 = passed_without common rest admissions.ews ranked0.distinct ews_sub in
-    let common2 = passed_without common left1 admissions.obc ranked1.distinct obc_sub in
-    let common3 = passed_without common left2 admissions.sc ranked2.distinct sc_sub in
-    let common4 = passed_without common left3 admissions.st ranked3.distinct st_sub in
+    let open_sub : IsSublist (admissions Open) all =
+    sublist_again (admissions Open) (filter common all) all (open_choice version seats all admissions choice).may.people (filter-sublist common all) in
+    let rest = rest_of all admissions in
+    let rest_ranked = ranked_without list all (admissions Open) ranked in
+    let there = are_there version seats all admissions ranked.distinct choice in
+    let left = λ (test : Person → Bool).
+    let a = passed_without test all (admissions Open) ranked.distinct open_sub in
+    let b = passed_in_merit test list people in
+    let sum : passed test rest + passed test (admissions Open) ≡ passed test people = omega (arith, a, b) in sum in
+    let whole = people_of list all admissions Dereserved in
     record {
       common = passed_in_merit common list people;
-      ews = members (is_of Ews);
-      obc = members (is_of Obc);
-      sc = members (is_of Sc);
-      st = members (is_of St);
-      last = omega (arith, common_rest, common1, common2, common3, common4);
-      ranked = ranked_by
-          (ranked_sublist list admissions.open_step all ranked open_sub)
-          (ranked_sublist list admissions.ews rest ranked0 ews_sub)
-          (ranked_sublist list admissions.obc left1 ranked1 obc_sub)
-          (ranked_sublist list admissions.sc left2 ranked2 sc_sub)
-          (ranked_sublist list admissions.st left3 ranked3 st_sub)
-          (last_ranked version seats all admissions ranked choice);
+      members = λ row here.
+          let competes = ap length ((row_facts row here).people list all admissions) in
+          let sum = left (is_of row.category) in
+          omega (arith, competes, sum);
+      last =
+          let first = left common in
+          let rows = rows_passed common category_steps rest admissions there in
+          let parts = sum-cons (passed common (admissions Open)) (map (λ kind. passed common (admissions kind)) (steps_of category_steps)) in
+          omega (arith, first, rows, parts);
+      ranked = each_kind (λ kind. AreRanked list (admissions kind)) (ranked_sublist list (admissions Open) all ranked open_sub)
+          (λ row here. ranked_sublist list (admissions row.step) rest rest_ranked (there.within row here))
+          (ranked_sublist list (admissions Dereserved) all ranked
+          (sublist_again (admissions Dereserved) whole all (subst (λ (some : List Person). IsSublist some whole) (sym choice.dereserved) (IsSublist-take (unfilled version seats admissions) whole))
+          (last_sublist list all admissions)));
     }
-  where
-    ranked_by : {list : ListId} {admissions : Admissions} → AreRanked list admissions.open_step → AreRanked list admissions.ews → AreRanked list admissions.obc → AreRanked list admissions.sc
-        → AreRanked list admissions.st → AreRanked list admissions.dereserved → (kind : StepKind) → AreRanked list (admitted_by admissions kind)
-    ranked_by a b c d e f Open = a
-    ranked_by a b c d e f EwsStep = b
-    ranked_by a b c d e f ObcStep = c
-    ranked_by a b c d e f ScStep = d
-    ranked_by a b c d e f StStep = e
-    ranked_by a b c d e f Dereserved = f
-
-    last_ranked : (version : ℕ) (seats : ProgrammeSeats) (all : List Person) (admissions : Admissions) → AreRanked seats.list all → IsProgrammeChoice version seats all admissions
-        → AreRanked seats.list admissions.dereserved
-    last_ranked version seats all admissions ranked choice =
-        let whole = people_of seats.list all admissions Dereserved in
-        ranked_sublist seats.list admissions.dereserved all ranked
-        (sublist_again admissions.dereserved whole all (subst (λ (some : List Person). IsSublist some whole) (sym choice.dereserved) (IsSublist-take (unfilled version seats admissions) whole))
-        (last_sublist seats.list all admissions))
 
 -- no step of its own seats admits more than a step may have
-pub record AreFew (admissions : Admissions) : Type 0 where
-  pub open_step : length admissions.open_step ≤ most_step_seats
-  pub ews : length admissions.ews ≤ most_step_seats
-  pub obc : length admissions.obc ≤ most_step_seats
-  pub sc : length admissions.sc ≤ most_step_seats
-  pub st : length admissions.st ≤ most_step_seats
-
-pub few_admitted : (state : ProgrammeKept) → IsProgrammeKept state → AreFew state.admissions
-few_admitted state kept =
-    let most = λ (kind : StepKind). (kept.are_seats.steps kind).seats in
-    let c = kept.choice in
-    record {
-      open_step = (let a = c.open_step.may.seats in let b = most Open in omega (arith, a, b));
-      ews = (let a = c.ews.may.seats in let b = most EwsStep in omega (arith, a, b));
-      obc = (let a = c.obc.may.seats in let b = most ObcStep in omega (arith, a, b));
-      sc = (let a = c.sc.may.seats in let b = most ScStep in omega (arith, a, b));
-      st = (let a = c.st.may.seats in let b = most StStep in omega (arith, a, b));
-    }
+pub few_admitted : (state : ProgrammeKept) → IsProgrammeKept state → (kind : StepKind) → is_dereserved kind ≡ false → length (admissions_of state kind) ≤ most_step_seats
+few_admitted state kept kind own =
+    let some = (kept.choice.own kind own).may.seats in
+    let most = (kept.are_seats.steps kind).seats in
+    omega (arith, some, most)
 
 -- who came to a programme, step by step
-pub who_came : (state : ProgrammeKept) (tried : Tried) (people : List Person) → AreLawful → HaveCome state tried people → Counts state.seats.list people state.admissions
-who_came state tried people laws come = counts state.version state.seats people state.admissions (laws.in_merit_ranks state.seats.list people come.may).0 come.choice
+pub who_came : (state : ProgrammeKept) (tried : Tried) (people : List Person) → AreLawful → HaveCome state tried people → Counts state.seats.list people (admissions_of state)
+who_came state tried people laws come = counts state.version state.seats people (admissions_of state) (laws.in_merit_ranks state.seats.list people come.may).0 come.choice
+
+-- each row's step admits distinct persons, and no more members came to it than that many
+pub rows_counted : (state : ProgrammeKept) (people : List Person) → Counts state.seats.list people (admissions_of state) → AreCounted state category_steps (members_of people)
+rows_counted state people k = by category_steps (λ row here. here)
+  where
+    by : (rows : List CategoryStep) → ((row : CategoryStep) → IsAmong row rows → IsRow row) → AreCounted state rows (map (λ row. passed (is_of row.category) people) rows)
+    by [] all = tt
+    by (row ∷ rows) all =
+        let ranked = k.ranked row.step in
+        let came = k.members row (all row (inl refl)) in
+        (record { distinct = ranked.distinct; traits = ranked.traits; few = omega (arith, came) }, by rows (λ other later. all other (inr later)))
+
+-- and its list shows the step
+pub rows_shown : (state : ProgrammeKept) (people : List Person) (lists : List StepList) → Counts state.seats.list people (admissions_of state) → ShowCategories state category_steps (members_of people) lists
+    → AllZip (λ row list. ShowsStep state.version state.seats (in_merit state.seats.list people) (admissions_of state) row.step list) category_steps lists
+rows_shown state people lists k shown = by category_steps lists (λ row here. here) shown
+  where
+    by : (rows : List CategoryStep) (some : List StepList) → ((row : CategoryStep) → IsAmong row rows → IsRow row)
+        → ShowCategories state rows (map (λ row. passed (is_of row.category) people) rows) some
+        → AllZip (λ row list. ShowsStep state.version state.seats (in_merit state.seats.list people) (admissions_of state) row.step list) rows some
+    by [] [] all shows = tt
+    by [] (list ∷ some) all shows = absurd shows
+    by (row ∷ rows) [] all shows = absurd shows
+    by (row ∷ rows) (list ∷ some) all shows =
+        let here = all row (inl refl) in
+        let competing = people_of state.seats.list (in_merit state.seats.list people) (admissions_of state) row.step in (
+          row_shown state.version state.seats (in_merit state.seats.list people) competing (admissions_of state row.step) (admissions_of state) row list here
+              (shows.0 competing (k.members row here)) refl refl,
+          by rows some (λ other later. all other (inr later)) shows.1,
+        )

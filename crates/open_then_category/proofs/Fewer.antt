@@ -1,18 +1,22 @@
 -- From more people a programme admits no fewer, by the lists of those who are admitted.
-use Rattle.std.proofs.Common.{◌≡◌, ◌≢◌, ◌≤◌, ℕ, List, [], ◌∷◌, length, refl, sym, arith, length-append}
+use Rattle.std.proofs.Common.{◌≡◌, ◌≢◌, ◌≤◌, ℕ, List, [], ◌∷◌, map, length, refl, sym, arith, length-append}
+use Rattle.std.specs.Prelude.{sum}
 use Rattle.std.specs.List.{AllByRecursion}
+use Rattle.office_base.specs.CategorySteps.{all_steps}
 use Rattle.office_base.specs.declared.person.Person.{Person}
+use Rattle.office_base.specs.declared.step.StepKind.{StepKind}
 use Rattle.placements.specs.Ranks.{AreAmong, AreDistinct, without}
 use Rattle.placements.proofs.Ranks.{among_sublist, any_at, are_among, pairwise_sublist, widen}
 use Rattle.placements.proofs.Without.{among_without, length_without}
 use Rattle.allocations.specs.Rule.{AreAdmitted}
 use Rattle.seat_matrix.specs.Seats.{AreProgrammeSeats}
 use Rattle.seat_matrix.specs.declared.seats.ProgrammeSeats.{ProgrammeSeats}
-use Rattle.programme_lists.specs.Chosen.{AdmitsUnder, AreApplicants, ChoosesFrom, everybody}
+use Rattle.programme_lists.specs.Chosen.{AdmitsUnder, AreApplicants, ChoosesFrom, all_by, everybody}
 use Rattle.programme_lists.specs.Programme.{Admissions, admitted_by}
 use Rattle.open_then_category.specs.Laws.{NoFewerFromMore, admitted_in_all}
 use Rattle.open_then_category.specs.StepLaws.{AreLawful}
 use Rattle.open_then_category.proofs.Once.{from_everybody, in_everybody}
+use Rattle.open_then_category.proofs.Rows.{sum-cons}
 use Rattle.open_then_category.proofs.SetLaws.{admitted_by_choice, admitted_once, chosen_well, no_fewer_admitted, programme_choice_exists}
 
 -- distinct persons who are all among others are no more than those
@@ -28,7 +32,15 @@ no_more (person ∷ some) all distinct among =
     left (other ∷ others) among apart = (among_without person.id other all among.0 (λ e. apart.0 (sym e)), left others among.1 apart.1)
 
 length_everybody : (admissions : Admissions) → length (everybody admissions) ≡ admitted_in_all admissions
-length_everybody admissions = simp length-append
+length_everybody admissions = by all_steps
+  where
+    by : (kinds : List StepKind) → length (all_by kinds admissions) ≡ sum (map (λ kind. length (admissions kind)) kinds)
+    by [] = refl
+    by (kind ∷ kinds) =
+        let later = by kinds in
+        let size = length-append (admissions kind) (all_by kinds admissions) in
+        let parts = sum-cons (length (admissions kind)) (map (λ other. length (admissions other)) kinds) in
+        omega (arith, later, size, parts)
 
 module _ (laws : AreLawful) (version : ℕ) (seats : ProgrammeSeats) (sound : AreProgrammeSeats seats) where
   -- those whom the programme admits are everybody whom its choice admits

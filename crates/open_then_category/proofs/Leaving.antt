@@ -1,29 +1,32 @@
 -- At most one is left without a seat by an offer to a programme.
-use Rattle.std.proofs.Common.{◌≡◌, ◌≤◌, ◌-◌, ◌+◌, ◌⊎◌, ℕ, zero, suc, Bool, true, false, cond, List, [], ◌∷◌, ◌++◌, Option, Some, None, take, length, length-append, refl, sym, ap, subst, inl, inr, arith}
-use Rattle.std.specs.Prelude.{◌==◌, MatchOption, slice_get}
+use Rattle.std.proofs.Common.{◌≡◌, ◌≤◌, ◌-◌, ◌+◌, ◌⊎◌, ℕ, zero, suc, Bool, true, false, cond, List, [], ◌∷◌, ◌++◌, map, take, length, length-append, refl, sym, ap, ◌∙◌, subst, inl, inr, arith}
+use Rattle.std.specs.Prelude.{Option, Some, None, MatchOption, slice_get, sum}
 use Rattle.std.proofs.lemmas.List.{length-take}
+use Rattle.office_base.specs.CategorySteps.{category_steps, gives_up}
 use Rattle.office_base.specs.Lists.{AnyByRecursion, IsAmong}
 use Rattle.office_base.specs.Merit.{in_merit, with_person}
 use Rattle.office_base.specs.Person.{is_common}
-use Rattle.office_base.specs.declared.person.Category.TheVariants.{Ews, Obc, Sc, St}
+use Rattle.office_base.specs.declared.category_steps.CategoryStep.{CategoryStep}
 use Rattle.office_base.specs.declared.person.ListId.{ListId}
 use Rattle.office_base.specs.declared.person.Person.{Person}
 use Rattle.office_base.specs.declared.step.StepKind.{StepKind}
-use Rattle.office_base.specs.declared.step.StepKind.TheVariants.{Open, Ews as EwsStep, Obc as ObcStep, Sc as ScStep, St as StStep, Dereserved}
+use Rattle.office_base.specs.declared.step.StepKind.TheVariants.{Open, Dereserved}
 use Rattle.placements.proofs.Sublists.{length-sublist}
 use Rattle.placements.specs.Ranks.{AreAmong, AreDistinct}
-use Rattle.placements.proofs.Ranks.{among_again, are_among, widen}
+use Rattle.placements.proofs.Ranks.{among_again, among_back, among_front, any_append, are_among, widen}
 use Rattle.placements.proofs.Without.{length_without}
 use Rattle.placements.proofs.Merit.{length_with}
 use Rattle.seat_matrix.specs.Seats.{seats_of}
 use Rattle.seat_matrix.specs.declared.seats.ProgrammeSeats.{ProgrammeSeats}
 use Rattle.seat_matrix.specs.declared.seats.Seating.{Seating}
-use Rattle.programme_lists.specs.Chosen.{AreApplicants, everybody}
-use Rattle.programme_lists.specs.Programme.{Admissions, admitted_by, is_of, people_of, unfilled}
-use Rattle.open_then_category.specs.State.{HoldsAllBut, IsLastOffer, IsOffer, LeavesOut, OffersLeaveOne, joining}
+use Rattle.programme_lists.specs.Chosen.{AreApplicants, all_by, everybody}
+use Rattle.programme_lists.specs.Programme.{Admissions, IsProgrammeChoice, is_of, people_of, unfilled, without}
+use Rattle.open_then_category.specs.State.{AreOffered, HoldsAllBut, IsLastOffer, IsOffer, IsOffered, LeavesOut, OffersLeaveOne, joining}
 use Rattle.open_then_category.specs.StepLaws.{AreLawful}
-use Rattle.open_then_category.proofs.Once.{from_everybody, in_everybody, ranked_once}
-use Rattle.open_then_category.proofs.Passing.{Joins, Stays, Takes, course, entered, joining_some, last_joins, offers_keep_choices, starts, step_at}
+use Rattle.open_then_category.proofs.Once.{ranked_once}
+use Rattle.open_then_category.proofs.Passing.{Joins, Passes, Stays, Takes, course, entered, joining_some, last_joins, offers_keep_choices, row_joins, row_passes, starts, step_at}
+use Rattle.open_then_category.proofs.ProgrammeLaws.{given}
+use Rattle.open_then_category.proofs.Rows.{AreThere, are_there, rest_of, row_choice, steps_of, sum-cons, there_next}
 
 -- ---- lengths
 
@@ -62,12 +65,52 @@ offered_count test list seats before None leaver after p = let none = ap count p
 offered_count test list seats before (Some person) None after p = omega arith
 offered_count test list seats before (Some person) (Some leaver) after p = omega arith
 
--- the seats that are left to the de-reserved step fall by at most one, and by none where somebody comes there
-pub falls_by_one : (b : Bool) (ews_seats ews ews_now obc_seats obc obc_now c0 c1 c2 c4 held : ℕ) → ews_now + c1 ≡ ews + c0 → obc_now + c2 ≡ obc + c1 → c0 ≤ 1 → c1 ≤ c0 → c2 ≤ c1 → c4 ≤ c2
-    → ews ≤ ews_seats → ews_now ≤ ews_seats → obc ≤ obc_seats → obc_now ≤ obc_seats
-    → held ≤ (obc_seats - obc) + cond b (ews_seats - ews) 0 → held + c4 ≤ ((obc_seats - obc_now) + cond b (ews_seats - ews_now) 0) + 1
-falls_by_one true ews_seats ews ews_now obc_seats obc obc_now c0 c1 c2 c4 held e o z1 z2 z3 z4 le1 le2 le3 le4 few = omega arith
-falls_by_one false ews_seats ews ews_now obc_seats obc obc_now c0 c1 c2 c4 held e o z1 z2 z3 z4 le1 le2 le3 le4 few = omega arith
+-- a step holds no more than its seats, where it held no more before
+pub offered_few : (test : Person → Bool) (list : ListId) (seats : Seating) (before : List Person) (coming leaver : Option Person) (after : List Person)
+    → IsOffer test (step_at list seats before) coming leaver after → length before ≤ seats.seats → length after ≤ seats.seats
+offered_few test list seats before coming leaver after p few = by (joining test coming) p
+  where
+    by : (joins : Option Person) → MatchOption joins (Stays before coming leaver after) (Takes list seats before leaver after) → length after ≤ seats.seats
+    by None h = let size = ap length h.1 in omega (arith, size, few)
+    by (Some person) h = h.0.may.seats
+
+-- so it is with the steps of rows
+pub rows_few : (seats : ProgrammeSeats) (rows : List CategoryStep) (before after : Admissions) (coming leaver : Option Person) → AreOffered seats before after rows coming leaver
+    → ((row : CategoryStep) → IsAmong row rows → length (before row.step) ≤ (seats_of seats row.step).seats)
+    → (row : CategoryStep) → IsAmong row rows → length (after row.step) ≤ (seats_of seats row.step).seats
+rows_few seats [] before after coming leaver offered few row here = absurd here
+rows_few seats (first ∷ rows) before after coming leaver offered few row here = elim here [
+  | inl same ↦ subst (λ (r : CategoryStep). length (after r.step) ≤ (seats_of seats r.step).seats) (sym same)
+      (offered_few (is_of first.category) seats.list (seats_of seats first.step) (before first.step) coming offered.0 (after first.step) offered.1 (few first (inl refl)))
+  | inr later ↦ rows_few seats rows before after offered.0 leaver offered.2 (λ other found. few other (inr found)) row later
+]
+
+-- the seats that a row gives up, with the one who goes, are no more than those that it gives up then, with the one who comes
+given_falls : (b : Bool) (seats before after goes comes : ℕ) → after + goes ≡ before + comes → goes ≤ comes → before ≤ seats → after ≤ seats
+    → cond b (seats - before) 0 + goes ≤ cond b (seats - after) 0 + comes
+given_falls true seats before after goes comes sizes fewer few few_after = omega arith
+given_falls false seats before after goes comes sizes fewer few few_after = omega arith
+
+-- what the rows give up, where their steps admit these
+abbrev pub given_by : ℕ → ProgrammeSeats → Admissions → List CategoryStep → ℕ
+given_by version seats a rows = sum (map (λ row. given version (seats_of seats row.step).seats (length (a row.step)) row) rows)
+
+-- so the seats that are left to the de-reserved step fall by at most one, and by none where somebody comes there
+pub falls_by_one : (version : ℕ) (seats : ProgrammeSeats) (rows : List CategoryStep) (before after : Admissions) (coming leaver : Option Person) → AreOffered seats before after rows coming leaver
+    → ((row : CategoryStep) → IsAmong row rows → length (before row.step) ≤ (seats_of seats row.step).seats)
+    → given_by version seats before rows + count leaver ≤ given_by version seats after rows + count coming
+falls_by_one version seats [] before after coming leaver offered few = let same = ap count offered in omega (arith, same)
+falls_by_one version seats (row ∷ rows) before after coming leaver offered few =
+    let room = (seats_of seats row.step).seats in
+    let size = offered_size (is_of row.category) seats.list (seats_of seats row.step) (before row.step) coming offered.0 (after row.step) offered.1 in
+    let fewer = offered_count (is_of row.category) seats.list (seats_of seats row.step) (before row.step) coming offered.0 (after row.step) offered.1 in
+    let was = few row (inl refl) in
+    let is = offered_few (is_of row.category) seats.list (seats_of seats row.step) (before row.step) coming offered.0 (after row.step) offered.1 was in
+    let now = given_falls (gives_up row version) room (length (before row.step)) (length (after row.step)) (count offered.0) (count coming) size fewer was is in
+    let later = falls_by_one version seats rows before after offered.0 leaver offered.2 (λ other found. few other (inr found)) in
+    let a = sum-cons (given version room (length (before row.step)) row) (map (λ other. given version (seats_of seats other.step).seats (length (before other.step)) other) rows) in
+    let b = sum-cons (given version room (length (after row.step)) row) (map (λ other. given version (seats_of seats other.step).seats (length (after other.step)) other) rows) in
+    omega (arith, now, later, a, b)
 
 -- ---- one too many
 
@@ -92,19 +135,19 @@ next_among [] n person e = cc e
 next_among (other ∷ people) zero person e = let same : other ≡ person = cc e in inl (sym same)
 next_among (other ∷ people) (suc n) person e = inr (next_among people n person e)
 
--- what the de-reserved step does in its turn
-record Last (before : List Person) (coming leaver : Option Person) (after : List Person) : Type 0 where
+-- What one step or more do in their turn: those held before and the one who comes are held then, but for the one who goes.
+record Moves (before : List Person) (coming leaver : Option Person) (after : List Person) : Type 0 where
   stay : (person : Person) → IsAmong person before ⊎ (coming ≡ Some person) → IsAmong person after ⊎ (leaver ≡ Some person)
   back : (person : Person) → leaver ≡ Some person → IsAmong person before ⊎ (coming ≡ Some person)
   sizes : length after + count leaver ≡ length before + count coming
 
 -- the same of the one who goes and of those held, by other names
-told : (before : List Person) (coming leaver other : Option Person) (after people : List Person) → leaver ≡ other → after ≡ people → Last before coming other people → Last before coming leaver after
-told before coming leaver other after people goes held last = subst (λ (o : Option Person). Last before coming o after) (sym goes) (subst (Last before coming other) (sym held) last)
+told : (before : List Person) (coming leaver other : Option Person) (after people : List Person) → leaver ≡ other → after ≡ people → Moves before coming other people → Moves before coming leaver after
+told before coming leaver other after people goes held last = subst (λ (o : Option Person). Moves before coming o after) (sym goes) (subst (Moves before coming other) (sym held) last)
 
 last_of : (list : ListId) (n : ℕ) (before : List Person) (coming leaver : Option Person) (after : List Person)
     → Joins list before (entered list before (joining (is_common list) coming)) (joining (is_common list) coming) → length before + count coming ≤ n + 1
-    → IsLastOffer list n before coming leaver after → Last before coming leaver after
+    → IsLastOffer list n before coming leaver after → Moves before coming leaver after
 last_of list n before None leaver after j few p = told before None leaver (slice_get before n) after (take n before) p.0 p.1 (record {
   stay = λ person h. elim h [ inl there ↦ taken_or_next before n person (omega arith) there | inr came ↦ cc came ];
   back = λ person e. inl (next_among before n person e);
@@ -114,7 +157,7 @@ last_of list n before (Some person) leaver after j few p = by (is_common list pe
   where
     by : (b : Bool) → Joins list before (entered list before (cond b (Some person) None)) (cond b (Some person) None)
         → MatchOption (cond b (Some person) None) ((leaver ≡ Some person) × (after ≡ take n before)) (λ one. (leaver ≡ slice_get (with_person list one before) n) × (after ≡ take n (with_person list one before)))
-        → Last before (Some person) leaver after
+        → Moves before (Some person) leaver after
     by true joins h =
         let joined = with_person list person before in
         let long = length_with list person before in
@@ -139,23 +182,70 @@ last_of list n before (Some person) leaver after j few p = by (is_common list pe
         past (first ∷ people) zero other few e = absurd (omega arith)
         past (first ∷ people) (suc n) other few e = past people n other (omega arith) e
 
--- everybody, counted step by step
-length_everybody : (admissions : Admissions) → length (everybody admissions)
-    ≡ length admissions.open_step + length admissions.ews + length admissions.obc + length admissions.sc + length admissions.st + length admissions.dereserved
-length_everybody admissions =
-    let a = admissions.open_step in
-    let b = a ++ admissions.ews in
-    let c = b ++ admissions.obc in
-    let d = c ++ admissions.sc in
-    let e = d ++ admissions.st in
-    omega (arith, length-append a admissions.ews, length-append b admissions.obc, length-append c admissions.sc, length-append d admissions.st, length-append e admissions.dereserved)
+-- one step after another
+moves_joined : (before more after others : List Person) (coming next leaver : Option Person) → Moves before coming next after → Moves more next leaver others → Moves (before ++ more) coming leaver (after ++ others)
+moves_joined before more after others coming next leaver one two = record {
+  stay = λ person h.
+      let first = λ (e : IsAmong person before ⊎ (coming ≡ Some person)).
+      let found : IsAmong person (after ++ others) ⊎ (leaver ≡ Some person) = elim (one.stay person e) [
+        | inl there ↦ inl (widen person after (after ++ others) (among_front after others) there)
+        | inr goes ↦ second person (inr goes)
+      ] in found in
+      elim h [
+        | inl here ↦ elim (any_append (λ other. person ≡ other) before more here) [ inl now ↦ first (inl now) | inr later ↦ second person (inl later) ]
+        | inr came ↦ first (inr came)
+      ];
+  back = λ person e. elim (two.back person e) [
+    | inl there ↦ inl (widen person more (before ++ more) (among_back before more) there)
+    | inr goes ↦ elim (one.back person goes) [ inl there ↦ inl (widen person before (before ++ more) (among_front before more) there) | inr came ↦ inr came ]
+  ];
+  sizes = let a = one.sizes in let b = two.sizes in omega (arith, a, b, length-append before more, length-append after others);
+}
+  where
+    second : (person : Person) → IsAmong person more ⊎ (next ≡ Some person) → IsAmong person (after ++ others) ⊎ (leaver ≡ Some person)
+    second person h = elim (two.stay person h) [ inl there ↦ inl (widen person others (after ++ others) (among_back after others) there) | inr goes ↦ inr goes ]
 
--- sums of what the steps hold
-all_sizes : (a b c d e f a2 b2 c2 d2 e2 f2 g0 g1 g2 g3 g4 g5 : ℕ) → a2 + g0 ≡ a + 1 → b2 + g1 ≡ b + g0 → c2 + g2 ≡ c + g1 → d2 + g3 ≡ d + g2 → e2 + g4 ≡ e + g3 → f2 + g5 ≡ f + g4
-    → (a2 + b2 + c2 + d2 + e2 + f2) + g5 ≡ suc (a + b + c + d + e + f)
-all_sizes a b c d e f a2 b2 c2 d2 e2 f2 g0 g1 g2 g3 g4 g5 h0 h1 h2 h3 h4 h5 = omega arith
+-- nobody is held, and the one who comes goes
+nothing_moves : (coming : Option Person) → Moves [] coming coming []
+nothing_moves coming = record { stay = λ person h. elim h [ inl there ↦ absurd there | inr came ↦ inr came ]; back = λ person e. inr e; sizes = refl }
+
+-- a step with seats of its own, by what it holds
+passed_on : (test : Person → Bool) (list : ListId) (seats : Seating) (before : List Person) (coming leaver : Option Person) (after : List Person) → Passes before coming leaver after
+    → IsOffer test (step_at list seats before) coming leaver after → Moves before coming leaver after
+passed_on test list seats before coming leaver after p offer =
+    record { stay = p.stay; back = λ person e. p.back person (inr e); sizes = offered_size test list seats before coming leaver after offer }
+
+-- one too many at most come to the de-reserved step, whatever it holds then
+pub few_come : (version : ℕ) (seats : ProgrammeSeats) (people : List Person) (before after : Admissions) (person : Person) (by_open come : Option Person) (held : List Person)
+    → IsProgrammeChoice version seats people before → IsOffer (is_common seats.list) (step_at seats.list (seats_of seats Open) (before Open)) (Some person) by_open held
+    → AreOffered seats before after category_steps by_open come → length (before Dereserved) + count come ≤ unfilled version seats after + 1
+few_come version seats people before after person by_open come held choice offer offered =
+    let whole = people_of seats.list people before Dereserved in
+    let size = ap length choice.dereserved ∙ length-take (unfilled version seats before) whole in
+    let one = offered_count (is_common seats.list) seats.list (seats_of seats Open) (before Open) (Some person) by_open held offer in
+    let falls : unfilled version seats before + count come ≤ unfilled version seats after + count by_open =
+    falls_by_one version seats category_steps before after by_open come offered (λ row here. (row_choice version seats people before choice row here).may.seats) in
+    omega (arith, size, one, falls)
+
+pub last_few : (version : ℕ) (seats : ProgrammeSeats) (people : List Person) (before after : Admissions) (person : Person) → IsProgrammeChoice version seats people before
+    → (offered : IsOffered version seats before person after) → length (before Dereserved) + count offered.left_by_categories ≤ unfilled version seats after + 1
+last_few version seats people before after person choice offered =
+    few_come version seats people before after person offered.left_by_open offered.left_by_categories (after Open) choice offered.open_step offered.categories
 
 module _ (laws : AreLawful) where
+  -- the steps of rows, and those after them
+  rows_move : (seats : ProgrammeSeats) (rows : List CategoryStep) (kinds : List StepKind) (old new : List Person) (before after : Admissions) (coming next leaver : Option Person) → AreThere rows old before
+      → Joins seats.list old new coming → AreOffered seats before after rows coming next → Moves (all_by kinds before) next leaver (all_by kinds after)
+      → Moves (all_by (steps_of rows ++ kinds) before) coming leaver (all_by (steps_of rows ++ kinds) after)
+  rows_move seats [] kinds old new before after coming next leaver there j offered last =
+      subst (λ (o : Option Person). Moves (all_by kinds before) o leaver (all_by kinds after)) offered last
+  rows_move seats (row ∷ rows) kinds old new before after coming next leaver there j offered last =
+      moves_joined (before row.step) (all_by (steps_of rows ++ kinds) before) (after row.step) (all_by (steps_of rows ++ kinds) after) coming offered.0 leaver
+      (passed_on (is_of row.category) seats.list (seats_of seats row.step) (before row.step) coming offered.0 (after row.step)
+      (row_passes laws seats row rows old new before coming offered.0 (after row.step) there j offered.1) offered.1)
+      (rows_move seats rows kinds (without old (before row.step)) (without new (after row.step)) before after offered.0 next leaver (there_next row rows old before there)
+      (row_joins laws seats row rows old new before coming offered.0 (after row.step) there j offered.1) offered.2 last)
+
   pub offers_leave_one : OffersLeaveOne
   offers_leave_one version seats before after person ok may choice offered =
       let list = seats.list in
@@ -173,83 +263,26 @@ module _ (laws : AreLawful) where
       let once = ranked_once version seats more after ranks.0.distinct new_choice in
       let within : AreAmong now all = among_again now more all once.within ranks.2 in
       let n = unfilled version seats after in
+      let come = offered.left_by_categories in
       let leaver = offered.left_out in
-      let joins = last_joins laws version seats people more before after person j held_ranks.2 choice offered way in
-      let held_last : length before.dereserved ≤ unfilled version seats before = (
-      let size = ap length choice.dereserved in
-      let whole = people_of list people before Dereserved in
-      omega (arith, size, length-take (unfilled version seats before) whole)
-      ) in
-      let s0 = offered_size (is_common list) list (seats_of seats Open) before.open_step (Some person) offered.left_by_open after.open_step offered.open_step in
-      let s1 = offered_size (is_of Ews) list (seats_of seats EwsStep) before.ews offered.left_by_open offered.left_by_ews after.ews offered.ews in
-      let s2 = offered_size (is_of Obc) list (seats_of seats ObcStep) before.obc offered.left_by_ews offered.left_by_obc after.obc offered.obc in
-      let s3 = offered_size (is_of Sc) list (seats_of seats ScStep) before.sc offered.left_by_obc offered.left_by_sc after.sc offered.sc in
-      let s4 = offered_size (is_of St) list (seats_of seats StStep) before.st offered.left_by_sc offered.left_by_st after.st offered.st in
-      let z0 = offered_count (is_common list) list (seats_of seats Open) before.open_step (Some person) offered.left_by_open after.open_step offered.open_step in
-      let z1 = offered_count (is_of Ews) list (seats_of seats EwsStep) before.ews offered.left_by_open offered.left_by_ews after.ews offered.ews in
-      let z2 = offered_count (is_of Obc) list (seats_of seats ObcStep) before.obc offered.left_by_ews offered.left_by_obc after.obc offered.obc in
-      let z3 = offered_count (is_of Sc) list (seats_of seats ScStep) before.sc offered.left_by_obc offered.left_by_sc after.sc offered.sc in
-      let z4 = offered_count (is_of St) list (seats_of seats StStep) before.st offered.left_by_sc offered.left_by_st after.st offered.st in
-      let z24 : count offered.left_by_st ≤ count offered.left_by_obc = omega arith in
-      let few : length before.dereserved + count offered.left_by_st ≤ n + 1 =
-      falls_by_one (version == 2) (seats_of seats EwsStep).seats (length before.ews) (length after.ews) (seats_of seats ObcStep).seats (length before.obc) (length after.obc)
-      (count offered.left_by_open) (count offered.left_by_ews) (count offered.left_by_obc) (count offered.left_by_st) (length before.dereserved) s1 s2 z0 z1 z2 z24
-      choice.ews.may.seats new_choice.ews.may.seats choice.obc.may.seats new_choice.obc.may.seats held_last in
-      let last = last_of list n before.dereserved offered.left_by_st leaver after.dereserved joins few offered.dereserved in
-      let stays = λ (other : Person) (kind : StepKind) (there : IsAmong other (admitted_by after kind)).
-      let found : IsAmong other now ⊎ (leaver ≡ Some other) = inl (widen other (admitted_by after kind) now (in_everybody after kind) there) in found in
-      let from4 = λ (other : Person) (e : IsAmong other before.dereserved ⊎ (offered.left_by_st ≡ Some other)).
-      let found : IsAmong other now ⊎ (leaver ≡ Some other) = elim (last.stay other e) [ inl there ↦ stays other Dereserved there | inr left ↦ inr left ] in found in
-      let from3 = λ (other : Person) (e : IsAmong other before.st ⊎ (offered.left_by_sc ≡ Some other)).
-      let found : IsAmong other now ⊎ (leaver ≡ Some other) = elim (way.st_passes.stay other e) [ inl there ↦ stays other StStep there | inr left ↦ from4 other (inr left) ] in found in
-      let from2 = λ (other : Person) (e : IsAmong other before.sc ⊎ (offered.left_by_obc ≡ Some other)).
-      let found : IsAmong other now ⊎ (leaver ≡ Some other) = elim (way.sc_passes.stay other e) [ inl there ↦ stays other ScStep there | inr left ↦ from3 other (inr left) ] in found in
-      let from1 = λ (other : Person) (e : IsAmong other before.obc ⊎ (offered.left_by_ews ≡ Some other)).
-      let found : IsAmong other now ⊎ (leaver ≡ Some other) = elim (way.obc_passes.stay other e) [ inl there ↦ stays other ObcStep there | inr left ↦ from2 other (inr left) ] in found in
-      let from0 = λ (other : Person) (e : IsAmong other before.ews ⊎ (offered.left_by_open ≡ Some other)).
-      let found : IsAmong other now ⊎ (leaver ≡ Some other) = elim (way.ews_passes.stay other e) [ inl there ↦ stays other EwsStep there | inr left ↦ from1 other (inr left) ] in found in
-      let first = λ (other : Person) (e : IsAmong other before.open_step ⊎ (Some person ≡ Some other)).
-      let found : IsAmong other now ⊎ (leaver ≡ Some other) = elim (way.open_passes.stay other e) [ inl there ↦ stays other Open there | inr left ↦ from0 other (inr left) ] in found in
+      let joins = last_joins laws version seats people more before after person j held_ranks.2 choice offered in
+      let few = last_few version seats people before after person choice offered in
+      let last = last_of list n (before Dereserved) come leaver (after Dereserved) joins few offered.dereserved in
+      let end = moves_joined (before Dereserved) [] (after Dereserved) [] come leaver leaver last (nothing_moves leaver) in
+      let moves : Moves held (Some person) leaver now = moves_joined (before Open) (all_by (steps_of category_steps ++ Dereserved ∷ []) before) (after Open) (all_by (steps_of category_steps ++ Dereserved ∷ []) after)
+      (Some person) offered.left_by_open leaver
+      (passed_on (is_common list) list (seats_of seats Open) (before Open) (Some person) offered.left_by_open (after Open) way.open_passes offered.open_step)
+      (rows_move seats category_steps (Dereserved ∷ []) (rest_of people before) (rest_of more after) before after offered.left_by_open come leaver
+      (are_there version seats people before j.ranked.distinct choice) way.rest offered.categories end) in
       let each = λ (other : Person) (here : IsAmong other all).
       let found : IsAmong other now ⊎ (leaver ≡ Some other) = elim here [
-        | inl same ↦ first other (inr (ap (λ (p : Person). Some p) (sym same)))
-        | inr there ↦
-            let at = from_everybody before other there in
-            elim at.0 as (λ (kind : StepKind). IsAmong other (admitted_by before kind) → IsAmong other now ⊎ (leaver ≡ Some other)) [
-              | Open ↦ λ h. first other (inl h)
-              | EwsStep ↦ λ h. from0 other (inl h)
-              | ObcStep ↦ λ h. from1 other (inl h)
-              | ScStep ↦ λ h. from2 other (inl h)
-              | StStep ↦ λ h. from3 other (inl h)
-              | Dereserved ↦ λ h. from4 other (inl h)
-            ] at.1
+        | inl same ↦ moves.stay other (inr (ap (λ (p : Person). Some p) (sym same)))
+        | inr there ↦ moves.stay other (inl there)
       ] in found in
-      let was = λ (other : Person) (kind : StepKind) (there : IsAmong other (admitted_by before kind)).
-      let found : IsAmong other all = inr (widen other (admitted_by before kind) held (in_everybody before kind) there) in found in
       let back = λ (other : Person) (e : leaver ≡ Some other).
-      let found : IsAmong other all = elim (last.back other e) [
-        | inl there ↦ was other Dereserved there
-        | inr g4 ↦ elim (way.st_passes.back other (inr g4)) [
-          | inl there ↦ was other StStep there
-          | inr g3 ↦ elim (way.sc_passes.back other (inr g3)) [
-            | inl there ↦ was other ScStep there
-            | inr g2 ↦ elim (way.obc_passes.back other (inr g2)) [
-              | inl there ↦ was other ObcStep there
-              | inr g1 ↦ elim (way.ews_passes.back other (inr g1)) [
-                | inl there ↦ was other EwsStep there
-                | inr g0 ↦ elim (way.open_passes.back other (inr g0)) [
-                  | inl there ↦ was other Open there
-                  | inr came ↦ (let is : person ≡ other = cc came in inl (sym is))
-                ]
-              ]
-            ]
-          ]
-        ]
-      ] in found in
-      let sizes = all_sizes (length before.open_step) (length before.ews) (length before.obc) (length before.sc) (length before.st) (length before.dereserved)
-      (length after.open_step) (length after.ews) (length after.obc) (length after.sc) (length after.st) (length after.dereserved)
-      (count offered.left_by_open) (count offered.left_by_ews) (count offered.left_by_obc) (count offered.left_by_sc) (count offered.left_by_st) (count leaver) s0 s1 s2 s3 s4 last.sizes in
-      let whole : length now + count leaver ≡ suc (length held) = omega (arith, sizes, length_everybody before, length_everybody after) in
+      let found : IsAmong other all = elim (moves.back other e) [ inl there ↦ inr there | inr came ↦ (let is : person ≡ other = cc came in inl (sym is)) ] in found in
+      let sizes = moves.sizes in
+      let whole : length now + count leaver ≡ suc (length held) = omega (arith, sizes) in
       answered version seats before after person leaver may once.distinct within each back whole
     where
       -- where all are held but one, that one is not

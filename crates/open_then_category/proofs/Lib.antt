@@ -3,14 +3,18 @@ mod Axioms
 mod Counting
 mod Decide
 mod Fewer
+mod Fours
 mod Grows
+pub mod Handed
 mod Keeping
 mod Last
 mod Leaving
+mod Members
 mod Offering
-mod Once
+pub mod Once
 mod Passing
 mod RankedWords
+pub mod Rows
 mod SetLaws
 pub mod Lists
 pub mod ProgrammeLaws

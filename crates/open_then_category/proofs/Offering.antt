@@ -1,140 +1,189 @@
 -- A person comes down the steps of a programme, by what each step keeps and what it does in its turn.
-use Rattle.std.proofs.Common.{◌≡◌, ◌≤◌, ◌+◌, ℕ, Bool, List, ◌∷◌, Option, Some, length, sym, ap, ◌∙◌, subst}
+use Rattle.std.proofs.Common.{◌≡◌, ◌≤◌, ◌+◌, ℕ, false, List, [], ◌∷◌, map, length, length-append, get_or, refl, sym, ap, ◌∙◌, subst, arith}
+use Rattle.std.specs.Prelude.{Option, Some}
+use Rattle.std.proofs.lemmas.List.{length-map}
+use Rattle.std.specs.List.{AllByRecursion, AllZip}
+use Rattle.office_base.specs.CategorySteps.{all_steps, category_steps}
+use Rattle.office_base.specs.Limits.{most_step_seats}
 use Rattle.office_base.specs.Lists.{IsAmong}
 use Rattle.office_base.specs.Merit.{IsNewTo}
 use Rattle.office_base.specs.Person.{is_common}
-use Rattle.office_base.specs.declared.person.Category.TheVariants.{Ews, Obc, Sc, St}
+use Rattle.office_base.specs.StepChoice.{AreRanked}
+use Rattle.office_base.specs.StepNumbers.{step_number}
+use Rattle.office_base.specs.declared.category_steps.CategoryStep.{CategoryStep}
 use Rattle.office_base.specs.declared.person.Person.{Person}
 use Rattle.office_base.specs.declared.step.StepKind.{StepKind}
-use Rattle.office_base.specs.declared.step.StepKind.TheVariants.{Open, Ews as EwsStep, Obc as ObcStep, Sc as ScStep, St as StStep}
+use Rattle.office_base.specs.declared.step.StepKind.TheVariants.{Open, Dereserved}
 use Rattle.placements.specs.Ranks.{AreDistinct}
 use Rattle.merit_choice.specs.State.{StepKept}
-use Rattle.seat_matrix.specs.Seats.{seats_of}
+use Rattle.seat_matrix.specs.Seats.{is_dereserved, of_step, seats_of}
 use Rattle.seat_matrix.specs.Unfilled.{left_unfilled}
-use Rattle.seat_matrix.specs.declared.seats.ProgrammeSeats.{ProgrammeSeats}
+use Rattle.dereserve.specs.Unfilled.{AreHeld, held_at}
 use Rattle.programme_lists.specs.Chosen.{AreApplicants, ChoosesFrom, IsWith, everybody}
-use Rattle.programme_lists.specs.Programme.{Admissions, is_of}
+use Rattle.programme_lists.specs.Programme.{Admissions, unfilled}
+use Rattle.programme_lists.proofs.Table.{row_facts}
 use Rattle.open_then_category.specs.Laws.{Resumes}
-use Rattle.open_then_category.specs.State.{IsLastOffer, IsOffer, IsOffered, IsProgrammeKept, IsStateKept, LeavesOut, OffersKeepChoices, OffersLeaveOne, ProgrammeKept, step_kept}
+use Rattle.open_then_category.specs.State.{AreHanded, AreNew, AreOffered, IsLastOffer, IsOffer, IsOffered, IsStateKept, LeavesOut, OffersKeepChoices, OffersLeaveOne, ProgrammeKept, admissions_of, by_number, categories_kept, people_held, people_or_none, step_kept}
 use Rattle.open_then_category.specs.StepLaws.{AreLawful}
+use Rattle.open_then_category.proofs.Handed.{At, categories_before, handed_kept, handed_length, handed_offered, last_at, own_below, size_at}
 use Rattle.open_then_category.proofs.Leaving.{count}
-use Rattle.open_then_category.proofs.Keeping.{Out, few_last, new_ews, new_last, new_obc, new_open, new_sc, new_st, settled}
+use Rattle.open_then_category.proofs.Keeping.{few_last, last_ranked, new_last, new_open, new_rows, own_few, settled}
+use Rattle.open_then_category.proofs.ProgrammeLaws.{given}
+use Rattle.open_then_category.proofs.Rows.{sum_same}
 
--- what a step does in its turn with the person who comes: whom it hands on, and those it holds then
-abbrev pub Turn : (Person → Bool) → StepKept → Option Person → Type 0
-Turn test step coming = (leaver : Option Person) × (after : List Person) × IsOffer test step coming leaver after
+module _ (laws : AreLawful) (state now : ProgrammeKept) (person : Person) (o : StepKept) (steps : List StepKept) (size : ℕ) (kept : IsStateKept state o steps size) (is : state ≡ now)
+    (asked : AreApplicants now.seats.list (person ∷ everybody (admissions_of now))) (tail : List Person) (whole : state.held ≡ people_held o steps tail) where
+  pub may_come : AreApplicants state.seats.list (person ∷ everybody (admissions_of state))
+  may_come = subst (λ (p : ProgrammeKept). AreApplicants p.seats.list (person ∷ everybody (admissions_of p))) (sym is) asked
 
--- the turn of a step that keeps its own of a programme
-abbrev turn_of : (seats : ProgrammeSeats) (kind : StepKind) (held : List Person) (test : Person → Bool) (step : StepKept) (coming : Option Person) → step ≡ step_kept seats kind held → Turn test step coming
-    → Out seats test kind held coming
-turn_of seats kind held test step coming is turn = (
-  turn.0,
-  turn.1,
-  subst (λ (k : StepKept). IsOffer test k coming turn.0 turn.1) is turn.2,
-)
+  -- the de-reserved step holds the last people
+  tail_is : admissions_of state Dereserved ≡ tail
+  tail_is =
+      let long : length steps ≡ length category_steps = ap length kept.of_categories in
+      ap (λ (held : List (List Person)). by_number held Dereserved) whole
+      ∙ ap people_or_none (last_at o.held (map (λ (step : StepKept). step.held) steps) tail (length-map steps (λ (step : StepKept). step.held) ∙ long))
 
-module _ (laws : AreLawful) (state now : ProgrammeKept) (person : Person) (o e b s t : StepKept) (size : ℕ) (kept : IsStateKept state o e b s t size) (is : state ≡ now)
-    (asked : AreApplicants now.seats.list (person ∷ everybody now.admissions)) where
-  pub may_come : AreApplicants state.seats.list (person ∷ everybody state.admissions)
-  may_come = subst (λ (p : ProgrammeKept). AreApplicants p.seats.list (person ∷ everybody p.admissions)) (sym is) asked
-
-  abbrev by_open : Turn (is_common state.seats.list) o (Some person) → Out state.seats (is_common state.seats.list) Open state.admissions.open_step (Some person)
-  by_open a = turn_of state.seats Open state.admissions.open_step (is_common state.seats.list) o (Some person) kept.of_open a
-
-  abbrev by_ews : (coming : Option Person) → Turn (is_of Ews) e coming → Out state.seats (is_of Ews) EwsStep state.admissions.ews coming
-  by_ews coming a = turn_of state.seats EwsStep state.admissions.ews (is_of Ews) e coming kept.of_ews a
-
-  abbrev by_obc : (coming : Option Person) → Turn (is_of Obc) b coming → Out state.seats (is_of Obc) ObcStep state.admissions.obc coming
-  by_obc coming a = turn_of state.seats ObcStep state.admissions.obc (is_of Obc) b coming kept.of_obc a
-
-  abbrev by_sc : (coming : Option Person) → Turn (is_of Sc) s coming → Out state.seats (is_of Sc) ScStep state.admissions.sc coming
-  by_sc coming a = turn_of state.seats ScStep state.admissions.sc (is_of Sc) s coming kept.of_sc a
-
-  abbrev by_st : (coming : Option Person) → Turn (is_of St) t coming → Out state.seats (is_of St) StStep state.admissions.st coming
-  by_st coming a = turn_of state.seats StStep state.admissions.st (is_of St) t coming kept.of_st a
+  pub tail_ranked : AreRanked state.seats.list tail
+  tail_ranked = subst (AreRanked state.seats.list) tail_is (last_ranked laws state.version state.seats (admissions_of state) person may_come kept.kept.choice)
 
   -- a person who comes to a step is new to it
   pub to_open : IsNewTo o.list o.held person
-  to_open = subst (λ (k : StepKept). IsNewTo k.list k.held person) (sym kept.of_open) (new_open laws state.version state.seats state.admissions person may_come kept.kept.choice)
+  to_open = subst (λ (k : StepKept). IsNewTo k.list k.held person) (sym kept.of_open) (new_open laws state.version state.seats (admissions_of state) person may_come kept.kept.choice)
 
-  module _ (a : Turn (is_common state.seats.list) o (Some person)) where
-    pub to_ews : (other : Person) → a.0 ≡ Some other → IsNewTo e.list e.held other
-    to_ews other h = subst (λ (k : StepKept). IsNewTo k.list k.held other) (sym kept.of_ews)
-        (new_ews laws state.version state.seats state.admissions person may_come kept.kept.choice (by_open a) other h)
+  -- a step has no more seats than a step may have
+  pub open_most : (o_new : StepKept) → o_new ≡ record o { held = o_new.held } → o_new.seats ≤ most_step_seats
+  open_most o_new stays =
+      let same = ap (λ (k : StepKept). k.seats) stays in
+      let was = ap (λ (k : StepKept). k.seats) kept.of_open in
+      let most = (kept.kept.are_seats.steps Open).seats in
+      omega (arith, same, was, most)
 
-    module _ (c : Turn (is_of Ews) e a.0) where
-      pub to_obc : (other : Person) → c.0 ≡ Some other → IsNewTo b.list b.held other
-      to_obc other h = subst (λ (k : StepKept). IsNewTo k.list k.held other) (sym kept.of_obc)
-          (new_obc laws state.version state.seats state.admissions person may_come kept.kept.choice (by_open a) (by_ews a.0 c) other h)
+  module _ (o_new : StepKept) (by_open : Option Person) (offer : IsOffer (is_common state.seats.list) o (Some person) by_open o_new.held) where
+    open_offer : IsOffer (is_common state.seats.list) (step_kept state.seats Open (admissions_of state Open)) (Some person) by_open o_new.held
+    open_offer = subst (λ (k : StepKept). IsOffer (is_common state.seats.list) k (Some person) by_open o_new.held) kept.of_open offer
 
-      module _ (d : Turn (is_of Obc) b c.0) where
-        pub to_sc : (other : Person) → d.0 ≡ Some other → IsNewTo s.list s.held other
-        to_sc other h = subst (λ (k : StepKept). IsNewTo k.list k.held other) (sym kept.of_sc)
-            (new_sc laws state.version state.seats state.admissions person may_come kept.kept.choice (by_open a) (by_ews a.0 c) (by_obc c.0 d) other h)
+    pub to_categories : AreNew category_steps steps by_open
+    to_categories = subst (λ (all : List StepKept). AreNew category_steps all by_open) (sym kept.of_categories)
+        (new_rows laws state.version state.seats (admissions_of state) person may_come kept.kept.choice by_open o_new.held open_offer)
 
-        module _ (f : Turn (is_of Sc) s d.0) where
-          pub to_st : (other : Person) → f.0 ≡ Some other → IsNewTo t.list t.held other
-          to_st other h = subst (λ (k : StepKept). IsNewTo k.list k.held other) (sym kept.of_st)
-              (new_st laws state.version state.seats state.admissions person may_come kept.kept.choice (by_open a) (by_ews a.0 c) (by_obc c.0 d) (by_sc d.0 f) other h)
+    module _ (news : List StepKept) (come : Option Person) (down : AreHanded category_steps steps news by_open come) where
+      handed : AreHanded category_steps (categories_kept state.seats (admissions_of state)) news by_open come
+      handed = subst (λ (all : List StepKept). AreHanded category_steps all news by_open come) kept.of_categories down
 
-          module _ (g : Turn (is_of St) t f.0) where
-            pub to_last : (other : Person) → g.0 ≡ Some other → IsNewTo state.seats.list state.admissions.dereserved other
-            to_last = new_last laws state.version state.seats state.admissions person may_come kept.kept.choice (by_open a) (by_ews a.0 c) (by_obc c.0 d) (by_sc d.0 f) (by_st f.0 g)
+      long : length news ≡ length category_steps
+      long = handed_length category_steps (categories_kept state.seats (admissions_of state)) news by_open come handed refl
 
-            module _ (seats ews obc : ℕ) (left : seats ≡ left_unfilled state.version (seats_of state.seats EwsStep).seats ews (seats_of state.seats ObcStep).seats obc)
-                (ews_is : ews ≡ length c.1) (obc_is : obc ≡ length d.1) where
-              empty : seats ≡ left_unfilled state.version (seats_of state.seats EwsStep).seats (length c.1) (seats_of state.seats ObcStep).seats (length d.1)
-              empty =
-                  left
-                  ∙ ap (λ (n : ℕ). left_unfilled state.version (seats_of state.seats EwsStep).seats n (seats_of state.seats ObcStep).seats obc) ews_is
-                  ∙ ap (λ (n : ℕ). left_unfilled state.version (seats_of state.seats EwsStep).seats (length c.1) (seats_of state.seats ObcStep).seats n) obc_is
+      -- whom each step admits then
+      abbrev lists : List Person → List (List Person)
+      lists last = people_held o_new news last
 
-              -- one too many at most come to the de-reserved step
-              pub few : length c.1 ≤ (seats_of state.seats EwsStep).seats → length d.1 ≤ (seats_of state.seats ObcStep).seats → length state.admissions.dereserved + count g.0 ≤ seats + 1
-              few ews_few obc_few = subst (λ (n : ℕ). length state.admissions.dereserved + count g.0 ≤ n + 1) (sym empty)
-                  (few_last laws state.version state.seats state.admissions person may_come kept.kept.choice (by_open a) (by_ews a.0 c) (by_obc c.0 d) (by_sc d.0 f) (by_st f.0 g) ews_few obc_few)
+      abbrev after : List Person → Admissions
+      after last = by_number (lists last)
 
-              module _ (out : Option Person) (last : List Person) (best : IsLastOffer state.seats.list seats state.admissions.dereserved g.0 out last) where
-                abbrev after : Admissions
-                after = record { open_step = a.1; ews = c.1; obc = d.1; sc = f.1; st = g.1; dereserved = last }
+      at : (last : List Person) → AllZip (λ (row : CategoryStep) (held : List Person). At (lists last) row.step held) category_steps (map (λ (step : StepKept). step.held) news)
+      at last = categories_before o_new.held (map (λ (step : StepKept). step.held) news) (last ∷ []) (length-map news (λ (step : StepKept). step.held) ∙ long)
 
-                abbrev offered : IsOffered state.version state.seats state.admissions person after
-                offered = record {
-                  left_by_open = a.0;
-                  left_by_ews = c.0;
-                  left_by_obc = d.0;
-                  left_by_sc = f.0;
-                  left_by_st = g.0;
-                  left_out = out;
-                  open_step = (by_open a).2;
-                  ews = (by_ews a.0 c).2;
-                  obc = (by_obc c.0 d).2;
-                  sc = (by_sc d.0 f).2;
-                  st = (by_st f.0 g).2;
-                  dereserved = subst (λ (n : ℕ). IsLastOffer state.seats.list n state.admissions.dereserved g.0 out last) empty best;
+      pub all_there : (last : List Person) → length (lists last) ≡ length all_steps
+      all_there last =
+          let all = map (λ (step : StepKept). step.held) news in
+          let some = length-map news (λ (step : StepKept). step.held) in
+          let size = length-append (o_new.held ∷ all) (last ∷ []) in
+          omega (arith, long, some, size)
+
+      offered_rows : (last : List Person) → AreOffered state.seats (admissions_of state) (after last) category_steps by_open come
+      offered_rows last = handed_offered state.seats (admissions_of state) (lists last) category_steps news by_open come (at last) handed
+
+      pub steps_most : AllByRecursion (λ (step : StepKept). step.seats ≤ most_step_seats) news
+      steps_most = subst (AllByRecursion (λ (step : StepKept). step.seats ≤ most_step_seats))
+          (sym (handed_kept state.seats (admissions_of state) (lists []) category_steps news by_open come (at []) handed))
+          (each_most category_steps)
+        where
+          each_most : (rows : List CategoryStep)
+              → AllByRecursion (λ (step : StepKept). step.seats ≤ most_step_seats) (map (λ row. step_kept state.seats row.step (after [] row.step)) rows)
+          each_most [] = tt
+          each_most (row ∷ rows) = ((kept.kept.are_seats.steps row.step).seats, each_most rows)
+
+      to_dereserved : (other : Person) → come ≡ Some other → IsNewTo state.seats.list (admissions_of state Dereserved) other
+      to_dereserved = new_last laws state.version state.seats (admissions_of state) person may_come kept.kept.choice by_open o_new.held open_offer (after (admissions_of state Dereserved)) come
+          (offered_rows (admissions_of state Dereserved))
+
+      pub to_last : (other : Person) → come ≡ Some other → IsNewTo state.seats.list tail other
+      to_last other came = subst (λ (people : List Person). IsNewTo state.seats.list people other) tail_is (to_dereserved other came)
+
+      module _ (held : List ℕ) (sizes : held ≡ map (λ (step : StepKept). length step.held) (o_new ∷ news)) where
+        held_is : (last : List Person) (kind : StepKind) → is_dereserved kind ≡ false → held_at held kind ≡ length (after last kind)
+        held_is last kind own =
+            let below = own_below kind own in
+            ap (λ (ns : List ℕ). get_or ns (step_number kind) 0) sizes ∙ size_at (o_new ∷ news) (last ∷ []) (step_number kind) (omega (arith, long, below))
+
+        -- no step holds more than its seats
+        pub are_held : AreHeld (λ step. (of_step state.seats.steps step).seats) held
+        are_held kind own =
+            let last = (admissions_of state) Dereserved in
+            let same = held_is last kind own in
+            let few = own_few laws state.version state.seats (admissions_of state) person may_come kept.kept.choice by_open o_new.held open_offer (after last) come refl (offered_rows last) kind own in
+            omega (arith, same, few)
+
+        module _ (empty : ℕ) (left : empty ≡ left_unfilled state.version (λ step. (of_step state.seats.steps step).seats) (held_at held)) where
+          empty_is : (last : List Person) → empty ≡ unfilled state.version state.seats (after last)
+          empty_is last =
+              left
+              ∙ sum_same category_steps (λ row. given state.version (seats_of state.seats row.step).seats (held_at held row.step) row)
+              (λ row. given state.version (seats_of state.seats row.step).seats (length (after last row.step)) row)
+              (λ row here. ap (λ (n : ℕ). given state.version (seats_of state.seats row.step).seats n row) (held_is last row.step (row_facts row here).own))
+
+          -- one too many at most come to the de-reserved step
+          pub few : length tail + count come ≤ empty + 1
+          few =
+              let last = (admissions_of state) Dereserved in
+              let most = few_last laws state.version state.seats (admissions_of state) person may_come kept.kept.choice by_open o_new.held open_offer (after last) come (offered_rows last) in
+              let same = empty_is last in
+              let size = ap length tail_is in
+              omega (arith, most, same, size)
+
+          module _ (out : Option Person) (last : List Person) (best : IsLastOffer state.seats.list empty tail come out last) where
+            abbrev offered : IsOffered state.version state.seats (admissions_of state) person (after last)
+            offered = record {
+              left_by_open = by_open;
+              left_by_categories = come;
+              left_out = out;
+              open_step = open_offer;
+              categories = offered_rows last;
+              dereserved = subst (λ (people : List Person). IsLastOffer state.seats.list (unfilled state.version state.seats (after last)) (admissions_of state Dereserved) come out people)
+                  (sym (ap people_or_none (last_at o_new.held (map (λ (step : StepKept). step.held) news) last (length-map news (λ (step : StepKept). step.held) ∙ long))))
+                  (subst (λ (n : ℕ). IsLastOffer state.seats.list n (admissions_of state Dereserved) come out last) (empty_is last)
+                  (subst (λ (people : List Person). IsLastOffer state.seats.list empty people come out last) (sym tail_is) best));
+            }
+
+            -- the steps hold the choice from those whom they held and the person
+            pub chosen : OffersKeepChoices → ChoosesFrom state.version state.seats (person ∷ everybody (admissions_of state)) (after last)
+            chosen law = law state.version state.seats (admissions_of state) (after last) person kept.kept.are_seats may_come kept.kept.choice offered
+
+            -- and so each keeps its own
+            pub keeps : OffersKeepChoices → (room : ℕ) → size ≤ room → o_new ≡ record o { held = o_new.held }
+                → IsStateKept (record { version = state.version; seats = state.seats; held = lists last }) o_new news room
+            keeps law room grown stays =
+                let was = kept.room in
+                record {
+                  kept = settled laws state.version state.seats (person ∷ everybody (admissions_of state)) (lists last) kept.kept.is_version kept.kept.are_seats (all_there last) may_come (chosen law);
+                  of_open = stays ∙ ap (λ (k : StepKept). let now : StepKept = record k { held = o_new.held } in now) kept.of_open;
+                  of_categories = handed_kept state.seats (admissions_of state) (lists last) category_steps news by_open come (at last) handed;
+                  room = omega (arith, was, grown);
                 }
 
-                -- the steps hold the choice from those whom they held and the person
-                pub chosen : OffersKeepChoices → ChoosesFrom state.version state.seats (person ∷ everybody state.admissions) after
-                chosen law = law state.version state.seats state.admissions after person kept.kept.are_seats may_come kept.kept.choice offered
+            -- who is left without a seat
+            pub leaves : OffersLeaveOne → LeavesOut (admissions_of state) person out (after last)
+            leaves law = law state.version state.seats (admissions_of state) (after last) person kept.kept.are_seats may_come kept.kept.choice offered
 
-                -- and so from themselves
-                pub settles : OffersKeepChoices → IsProgrammeKept (record { version = state.version; seats = state.seats; admissions = after })
-                settles law = settled laws state.version state.seats (person ∷ everybody state.admissions) after kept.kept.is_version kept.kept.are_seats may_come (chosen law)
+            -- the same of the programme as it was at the call
+            pub chooses : OffersKeepChoices → ChoosesFrom now.version now.seats (person ∷ everybody (admissions_of now)) (after last)
+            chooses law = subst (λ (p : ProgrammeKept). ChoosesFrom p.version p.seats (person ∷ everybody (admissions_of p)) (after last)) is (chosen law)
 
-                -- who is left without a seat
-                pub leaves : OffersLeaveOne → LeavesOut state.admissions person out after
-                leaves law = law state.version state.seats state.admissions after person kept.kept.are_seats may_come kept.kept.choice offered
-
-                -- the same of the programme as it was at the call
-                pub chooses : OffersKeepChoices → ChoosesFrom now.version now.seats (person ∷ everybody now.admissions) after
-                chooses law = subst (λ (p : ProgrammeKept). ChoosesFrom p.version p.seats (person ∷ everybody p.admissions) after) is (chosen law)
-
-                -- where the steps held the choice from some people, they hold the choice from those and the person
-                pub goes_on : OffersKeepChoices → Resumes → (some all : List Person) → AreDistinct some → AreApplicants now.seats.list all → IsWith person some all → (IsAmong person some → ⊥)
-                    → ChoosesFrom now.version now.seats some now.admissions → ChoosesFrom now.version now.seats all after
-                goes_on law resumes =
-                    let whole : ProgrammeKept → Type 0 = λ p. (some all : List Person) → AreDistinct some → AreApplicants p.seats.list all → IsWith person some all → (IsAmong person some → ⊥)
-                    → ChoosesFrom p.version p.seats some p.admissions → ChoosesFrom p.version p.seats all after in
-                    subst whole is (λ some all distinct all_may joined fresh one.
-                    resumes state.version state.seats some all person state.admissions after kept.kept.are_seats distinct all_may joined fresh one (chosen law))
+            -- where the steps held the choice from some people, they hold the choice from those and the person
+            pub goes_on : OffersKeepChoices → Resumes → (some all : List Person) → AreDistinct some → AreApplicants now.seats.list all → IsWith person some all → (IsAmong person some → ⊥)
+                → ChoosesFrom now.version now.seats some (admissions_of now) → ChoosesFrom now.version now.seats all (after last)
+            goes_on law resumes =
+                let whole : ProgrammeKept → Type 0 = λ p. (some all : List Person) → AreDistinct some → AreApplicants p.seats.list all → IsWith person some all → (IsAmong person some → ⊥)
+                → ChoosesFrom p.version p.seats some (admissions_of p) → ChoosesFrom p.version p.seats all (after last) in
+                subst whole is (λ some all distinct all_may joined fresh one.
+                resumes state.version state.seats some all person (admissions_of state) (after last) kept.kept.are_seats distinct all_may joined fresh one (chosen law))

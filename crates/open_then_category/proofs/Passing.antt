@@ -5,16 +5,17 @@ use Rattle.std.proofs.lemmas.Bool.{cases_Bool, cond-true, cond-false}
 use Rattle.std.specs.List.{AllByRecursion, filter}
 use Rattle.std.specs.Prelude.{IsSome, MatchOption, slice_get}
 use Rattle.std.specs.Option.{option_or}
+use Rattle.office_base.specs.CategorySteps.{category_steps}
 use Rattle.office_base.specs.Lists.{IsAmong, IsSublist, Pairwise}
 use Rattle.office_base.specs.Merit.{IsNewTo, in_merit, with_person}
 use Rattle.office_base.specs.Person.{IsList, IsTraitSet, is_common, number_in}
 use Rattle.office_base.specs.StepChoice.{AreRanked, IsStep, IsStepChoice}
+use Rattle.office_base.specs.declared.category_steps.CategoryStep.{CategoryStep}
 use Rattle.office_base.specs.declared.person.Category.{Category}
-use Rattle.office_base.specs.declared.person.Category.TheVariants.{Ews, Obc, Sc, St}
 use Rattle.office_base.specs.declared.person.ListId.{ListId}
 use Rattle.office_base.specs.declared.person.Person.{Person}
 use Rattle.office_base.specs.declared.step.StepKind.{StepKind}
-use Rattle.office_base.specs.declared.step.StepKind.TheVariants.{Open, Ews as EwsStep, Obc as ObcStep, Sc as ScStep, St as StStep, Dereserved}
+use Rattle.office_base.specs.declared.step.StepKind.TheVariants.{Open, Dereserved}
 use Rattle.placements.proofs.Sublists.{IsSublist-take, sublist_again}
 use Rattle.placements.specs.Ranks.{AreAmong, AreDistinct}
 use Rattle.placements.specs.Ranks as words
@@ -26,13 +27,15 @@ use Rattle.seat_matrix.specs.Seats.{AreProgrammeSeats, IsSeated, seats_of}
 use Rattle.seat_matrix.specs.declared.seats.ProgrammeSeats.{ProgrammeSeats}
 use Rattle.seat_matrix.specs.declared.seats.Seating.{Seating}
 use Rattle.programme_lists.specs.Chosen.{AreApplicants, everybody}
-use Rattle.programme_lists.specs.Programme.{Admissions, IsProgrammeChoice, admitted_by, is_of, left_over, people_of, step_with, unfilled, without}
-use Rattle.open_then_category.specs.State.{HoldsAllBut, IsLastOffer, IsOffer, IsOffered, OffersKeepChoices, joining}
+use Rattle.programme_lists.specs.Programme.{Admissions, IsProgrammeChoice, is_of, left_by, left_over, people_of, step_with, unfilled, without}
+use Rattle.open_then_category.specs.State.{AreOffered, HoldsAllBut, IsLastOffer, IsOffer, IsOffered, OffersKeepChoices, joining}
 use Rattle.open_then_category.specs.StepLaws.{AreLawful}
 use Rattle.open_then_category.proofs.Decide.{is_among_or_not}
 use Rattle.open_then_category.proofs.Once.{from_everybody}
-use Rattle.open_then_category.proofs.ProgrammeLaws.{is_left, last_sublist, rest_of}
-use Rattle.programme_lists.proofs.Walk.{members_sublist, obc_there, ranked_without, same_category, sc_there, st_there}
+use Rattle.open_then_category.proofs.ProgrammeLaws.{is_left, last_sublist}
+use Rattle.open_then_category.proofs.Rows.{AreThere, are_there, kind_or_last, made_choice, open_choice, rest_of, row_choice, steps_of, there_next}
+use Rattle.programme_lists.proofs.Table.{of_row}
+use Rattle.programme_lists.proofs.Walk.{ranked_without, same_category}
 use Rattle.programme_lists.proofs.Taken.{among_without, among_without_from}
 
 -- ---- a person who joins
@@ -196,15 +199,11 @@ last_best list n old coming leaver new p = by (joining (is_common list) coming) 
     by None h = h.1
     by (Some person) h = h.1
 
--- what each step does in its turn, and the people who are left after the open step and after all categories
-pub record Course (version : ℕ) (seats : ProgrammeSeats) (people more : List Person) (before after : Admissions) (person : Person) (offered : IsOffered version seats before person after) : Type 0 where
-  pub open_passes : Passes before.open_step (Some person) offered.left_by_open after.open_step
-  pub ews_passes : Passes before.ews offered.left_by_open offered.left_by_ews after.ews
-  pub obc_passes : Passes before.obc offered.left_by_ews offered.left_by_obc after.obc
-  pub sc_passes : Passes before.sc offered.left_by_obc offered.left_by_sc after.sc
-  pub st_passes : Passes before.st offered.left_by_sc offered.left_by_st after.st
-  pub rest : Joins seats.list (rest_of people before) (rest_of more after) offered.left_by_open
-  pub last : Joins seats.list (left_over people before) (left_over more after) offered.left_by_st
+-- the people who are left after the open step, and after all categories
+pub record Course (seats : ProgrammeSeats) (people more : List Person) (before after : Admissions) (person : Person) (left_by_open left_by_categories : Option Person) : Type 0 where
+  pub open_passes : Passes (before Open) (Some person) left_by_open (after Open)
+  pub rest : Joins seats.list (rest_of people before) (rest_of more after) left_by_open
+  pub last : Joins seats.list (left_over people before) (left_over more after) left_by_categories
 
 module _ (laws : AreLawful) where
   -- ranked people who are the same persons are one list
@@ -331,13 +330,14 @@ module _ (laws : AreLawful) where
 
   -- ---- a person whom a category leaves out is in no other category
 
-  joining_later : (one other : Category) (list : ListId) (seats : Seating) (people old new : List Person) (coming leaver : Option Person) → (one ≡ other → ⊥) → IsSublist old (filter (is_of one) people)
+  joining_later : (one other : Category) (list : ListId) (seats : Seating) (old new : List Person) (coming leaver : Option Person) → (one ≡ other → ⊥)
+      → ((person : Person) → IsAmong person old → one ≡ person.category)
       → Passes old coming leaver new → IsOffer (is_of one) (step_at list seats old) coming leaver new → joining (is_of other) leaver ≡ joining (is_of other) coming
-  joining_later one other list seats people old new coming leaver differ sub p offered = by (joining (is_of one) coming) refl offered
+  joining_later one other list seats old new coming leaver differ members p offered = by (joining (is_of one) coming) refl offered
     where
-      not_other : (someone : Person) → is_of one someone ≡ true → is_of other someone ≡ false
+      not_other : (someone : Person) → one ≡ someone.category → is_of other someone ≡ false
       not_other someone holds = elim (cases_Bool (is_of other someone)) [
-        | inl too ↦ absurd (differ (same_category one someone.category holds ∙ sym (same_category other someone.category too)))
+        | inl too ↦ absurd (differ (holds ∙ sym (same_category other someone.category too)))
         | inr fails ↦ fails
       ]
 
@@ -348,139 +348,129 @@ module _ (laws : AreLawful) where
           let is_one = λ (someone : Person) (came : coming ≡ Some someone).
           let same : Some person ≡ Some someone = sym found.0 ∙ came in
           let is : person ≡ someone = cc same in
-          let holds : is_of one someone ≡ true = subst (λ (p : Person). is_of one p ≡ true) is found.1 in holds in
+          let holds : one ≡ someone.category = same_category one someone.category (subst (λ (p : Person). is_of one p ≡ true) is found.1) in holds in
           none_joining (is_of other) leaver (λ someone e. not_other someone (elim (p.back someone (inr e)) [
-            | inl held ↦ (among_filter (is_of one) someone people (widen someone old (filter (is_of one) people) (among_sublist old (filter (is_of one) people) sub) held)).1
+            | inl held ↦ members someone held
             | inr came ↦ is_one someone came
           ]))
           ∙ sym (none_joining (is_of other) coming (λ someone came. not_other someone (is_one someone came)))
+
+  -- ---- the steps of rows, one after another
+
+  -- what the step of the first row does in its turn
+  pub row_passes : (seats : ProgrammeSeats) (row : CategoryStep) (rows : List CategoryStep) (old new : List Person) (before : Admissions) (coming leaver : Option Person) (held : List Person)
+      → AreThere (row ∷ rows) old before → Joins seats.list old new coming → IsOffer (is_of row.category) (step_at seats.list (seats_of seats row.step) (before row.step)) coming leaver held
+      → Passes (before row.step) coming leaver held
+  row_passes seats row rows old new before coming leaver held there j offer =
+      let sub = there.within row (inl refl) in
+      passes (is_of row.category) seats.list (seats_of seats row.step) old new (before row.step) held coming leaver j (among_sublist (before row.step) old sub)
+      (ranked_sublist seats.list (before row.step) old j.ranked sub) offer
+
+  -- and who is left after it
+  pub row_joins : (seats : ProgrammeSeats) (row : CategoryStep) (rows : List CategoryStep) (old new : List Person) (before : Admissions) (coming leaver : Option Person) (held : List Person)
+      → AreThere (row ∷ rows) old before → Joins seats.list old new coming → IsOffer (is_of row.category) (step_at seats.list (seats_of seats row.step) (before row.step)) coming leaver held
+      → Joins seats.list (without old (before row.step)) (without new held) leaver
+  row_joins seats row rows old new before coming leaver held there j offer =
+      without_joins seats.list old new (before row.step) held coming leaver j (among_sublist (before row.step) old (there.within row (inl refl)))
+      (row_passes seats row rows old new before coming leaver held there j offer)
+
+  -- who is left after all of them
+  pub rows_join : (seats : ProgrammeSeats) (rows : List CategoryStep) (old new : List Person) (before after : Admissions) (coming leaver : Option Person) → AreThere rows old before → Joins seats.list old new coming
+      → AreOffered seats before after rows coming leaver → Joins seats.list (left_by (steps_of rows) old before) (left_by (steps_of rows) new after) leaver
+  rows_join seats [] old new before after coming leaver there j offered = subst (Joins seats.list old new) (sym offered) j
+  rows_join seats (row ∷ rows) old new before after coming leaver there j offered =
+      rows_join seats rows (without old (before row.step)) (without new (after row.step)) before after offered.0 leaver (there_next row rows old before there)
+      (row_joins seats row rows old new before coming offered.0 (after row.step) there j offered.1) offered.2
+
+  -- each of them holds the choice with the person who came to the first, where that person is a member
+  rows_choose : (seats : ProgrammeSeats) (rows : List CategoryStep) (old new : List Person) (before after : Admissions) (coming leaver : Option Person) → AreThere rows old before → Joins seats.list old new coming
+      → AreOffered seats before after rows coming leaver → (row : CategoryStep) → IsAmong row rows
+      → ChosenWith seats.list (seats_of seats row.step) (before row.step) (joining (is_of row.category) coming) (after row.step)
+  rows_choose seats [] old new before after coming leaver there j offered row here = absurd here
+  rows_choose seats (first ∷ rows) old new before after coming leaver there j offered row here = elim here [
+    | inl same ↦ subst (λ (r : CategoryStep). ChosenWith seats.list (seats_of seats r.step) (before r.step) (joining (is_of r.category) coming) (after r.step)) (sym same)
+        (offered_choice (is_of first.category) seats.list (seats_of seats first.step) (before first.step) coming offered.0 (after first.step) offered.1)
+    | inr later ↦
+        let next = rows_choose seats rows (without old (before first.step)) (without new (after first.step)) before after offered.0 leaver (there_next first rows old before there)
+        (row_joins seats first rows old new before coming offered.0 (after first.step) there j offered.1) offered.2 row later in
+        let same : joining (is_of row.category) offered.0 ≡ joining (is_of row.category) coming =
+        joining_later first.category row.category seats.list (seats_of seats first.step) (before first.step) (after first.step) coming offered.0 (of_row _ rows row there.apart.0 later).0
+        (there.members first (inl refl)) (row_passes seats first rows old new before coming offered.0 (after first.step) there j offered.1) offered.1 in
+        subst (λ (o : Option Person). ChosenWith seats.list (seats_of seats row.step) (before row.step) o (after row.step)) same next
+  ]
 
   -- ---- the whole programme
 
   -- where all applicants are admitted, the de-reserved step has all who are left to it
   pub last_whole : (version : ℕ) (seats : ProgrammeSeats) (people : List Person) (admissions : Admissions) → AreRanked seats.list people → AreAmong people (everybody admissions)
-      → IsProgrammeChoice version seats people admissions → admissions.dereserved ≡ people_of seats.list people admissions Dereserved
+      → IsProgrammeChoice version seats people admissions → admissions Dereserved ≡ people_of seats.list people admissions Dereserved
   last_whole version seats people admissions ranked all choice =
       let whole = people_of seats.list people admissions Dereserved in
       let n = unfilled version seats admissions in
       let whole_ranked = ranked_sublist seats.list whole people ranked (last_sublist seats.list people admissions) in
-      let sub : IsSublist admissions.dereserved whole = subst (λ (some : List Person). IsSublist some whole) (sym choice.dereserved) (IsSublist-take n whole) in
-      ranked_same seats.list admissions.dereserved whole (ranked_sublist seats.list admissions.dereserved whole whole_ranked sub) whole_ranked (among_sublist admissions.dereserved whole sub)
-      (are_among whole admissions.dereserved (λ person here.
+      let sub : IsSublist (admissions Dereserved) whole = subst (λ (some : List Person). IsSublist some whole) (sym choice.dereserved) (IsSublist-take n whole) in
+      ranked_same seats.list (admissions Dereserved) whole (ranked_sublist seats.list (admissions Dereserved) whole whole_ranked sub) whole_ranked (among_sublist (admissions Dereserved) whole sub)
+      (are_among whole (admissions Dereserved) (λ person here.
       let left = is_left person people admissions (among_filter (is_common seats.list) person (left_over people admissions) here).0 in
       let found = from_everybody admissions person (widen person people (everybody admissions) all left.here) in
-      elim found.0 as (λ (kind : StepKind). IsAmong person (admitted_by admissions kind) → IsAmong person admissions.dereserved) [
-        | Open ↦ λ there. absurd (left.not_open there)
-        | EwsStep ↦ λ there. absurd (left.not_ews there)
-        | ObcStep ↦ λ there. absurd (left.not_obc there)
-        | ScStep ↦ λ there. absurd (left.not_sc there)
-        | StStep ↦ λ there. absurd (left.not_st there)
-        | Dereserved ↦ λ there. there
-      ] found.1))
+      elim (kind_or_last found.0) [
+        | inl own ↦ absurd (left.free found.0 own found.1)
+        | inr last ↦ subst (λ (kind : StepKind). IsAmong person (admissions kind)) last found.1
+      ]))
 
-  -- what each step does in its turn, and the people who are left after it
+  -- what the open step does in its turn, and the people who are left after it and after all categories
   pub course : (version : ℕ) (seats : ProgrammeSeats) (people more : List Person) (before after : Admissions) (person : Person) → Joins seats.list people more (Some person)
-      → IsProgrammeChoice version seats people before → (offered : IsOffered version seats before person after) → Course version seats people more before after person offered
+      → IsProgrammeChoice version seats people before → (offered : IsOffered version seats before person after)
+      → Course seats people more before after person offered.left_by_open offered.left_by_categories
   course version seats people more before after person j choice offered =
       let list = seats.list in
-      let open_sub = sublist_again before.open_step (filter (is_common list) people) people choice.open_step.may.people (filter-sublist (is_common list) people) in
-      let open_passes = passes (is_common list) list (seats_of seats Open) people more before.open_step after.open_step (Some person) offered.left_by_open j (among_sublist before.open_step people open_sub)
-      (ranked_sublist list before.open_step people j.ranked open_sub) offered.open_step in
-      let rest = without_joins list people more before.open_step after.open_step (Some person) offered.left_by_open j (among_sublist before.open_step people open_sub) open_passes in
-      let old = rest_of people before in
-      let new = rest_of more after in
-      let distinct = rest.ranked.distinct in
-      let ews_sub = members_sublist Ews before.ews old choice.ews.may.people in
-      let ews_passes = passes (is_of Ews) list (seats_of seats EwsStep) old new before.ews after.ews offered.left_by_open offered.left_by_ews rest (among_sublist before.ews old ews_sub)
-      (ranked_sublist list before.ews old rest.ranked ews_sub) offered.ews in
-      let rest1 = without_joins list old new before.ews after.ews offered.left_by_open offered.left_by_ews rest (among_sublist before.ews old ews_sub) ews_passes in
-      let old1 = without old before.ews in
-      let new1 = without new after.ews in
-      let obc_sub = obc_there old before.ews before.obc distinct choice.ews.may.people choice.obc.may.people in
-      let obc_passes = passes (is_of Obc) list (seats_of seats ObcStep) old1 new1 before.obc after.obc offered.left_by_ews offered.left_by_obc rest1 (among_sublist before.obc old1 obc_sub)
-      (ranked_sublist list before.obc old1 rest1.ranked obc_sub) offered.obc in
-      let rest2 = without_joins list old1 new1 before.obc after.obc offered.left_by_ews offered.left_by_obc rest1 (among_sublist before.obc old1 obc_sub) obc_passes in
-      let old2 = without old1 before.obc in
-      let new2 = without new1 after.obc in
-      let sc_sub = sc_there old before.ews before.obc before.sc distinct choice.ews.may.people choice.obc.may.people choice.sc.may.people in
-      let sc_passes = passes (is_of Sc) list (seats_of seats ScStep) old2 new2 before.sc after.sc offered.left_by_obc offered.left_by_sc rest2 (among_sublist before.sc old2 sc_sub)
-      (ranked_sublist list before.sc old2 rest2.ranked sc_sub) offered.sc in
-      let rest3 = without_joins list old2 new2 before.sc after.sc offered.left_by_obc offered.left_by_sc rest2 (among_sublist before.sc old2 sc_sub) sc_passes in
-      let old3 = without old2 before.sc in
-      let new3 = without new2 after.sc in
-      let st_sub = st_there old before.ews before.obc before.sc before.st distinct choice.ews.may.people choice.obc.may.people choice.sc.may.people choice.st.may.people in
-      let st_passes = passes (is_of St) list (seats_of seats StStep) old3 new3 before.st after.st offered.left_by_sc offered.left_by_st rest3 (among_sublist before.st old3 st_sub)
-      (ranked_sublist list before.st old3 rest3.ranked st_sub) offered.st in
-      let rest4 = without_joins list old3 new3 before.st after.st offered.left_by_sc offered.left_by_st rest3 (among_sublist before.st old3 st_sub) st_passes in
+      let common = filter (is_common list) people in
+      let sub = sublist_again (before Open) common people (open_choice version seats people before choice).may.people (filter-sublist (is_common list) people) in
+      let within = among_sublist (before Open) people sub in
+      let open_passes = passes (is_common list) list (seats_of seats Open) people more (before Open) (after Open) (Some person) offered.left_by_open j within
+      (ranked_sublist list (before Open) people j.ranked sub) offered.open_step in
+      let rest = without_joins list people more (before Open) (after Open) (Some person) offered.left_by_open j within open_passes in
       record {
         open_passes = open_passes;
-        ews_passes = ews_passes;
-        obc_passes = obc_passes;
-        sc_passes = sc_passes;
-        st_passes = st_passes;
         rest = rest;
-        last = rest4;
+        last = rows_join seats category_steps (rest_of people before) (rest_of more after) before after offered.left_by_open offered.left_by_categories
+            (are_there version seats people before j.ranked.distinct choice) rest offered.categories;
       }
 
   -- a person who comes to the de-reserved step joins those it has
   pub last_joins : (version : ℕ) (seats : ProgrammeSeats) (people more : List Person) (before after : Admissions) (person : Person) → Joins seats.list people more (Some person)
-      → AreAmong people (everybody before) → IsProgrammeChoice version seats people before → (offered : IsOffered version seats before person after) → Course version seats people more before after person offered
-      → Joins seats.list before.dereserved (entered seats.list before.dereserved (joining (is_common seats.list) offered.left_by_st)) (joining (is_common seats.list) offered.left_by_st)
-  last_joins version seats people more before after person j all choice offered course =
+      → AreAmong people (everybody before) → IsProgrammeChoice version seats people before → (offered : IsOffered version seats before person after)
+      → Joins seats.list (before Dereserved) (entered seats.list (before Dereserved) (joining (is_common seats.list) offered.left_by_categories)) (joining (is_common seats.list) offered.left_by_categories)
+  last_joins version seats people more before after person j all choice offered =
       let list = seats.list in
-      let coming = joining (is_common list) offered.left_by_st in
-      let joined = filter_joins list (is_common list) (left_over people before) (left_over more after) offered.left_by_st course.last in
+      let coming = joining (is_common list) offered.left_by_categories in
+      let joined = filter_joins list (is_common list) (left_over people before) (left_over more after) offered.left_by_categories (course version seats people more before after person j choice offered).last in
       let whole = last_whole version seats people before j.ranked all choice in
-      let there : Joins list before.dereserved (people_of list more after Dereserved) coming = subst (λ (some : List Person). Joins list some (people_of list more after Dereserved) coming) (sym whole) joined in
-      subst (λ (some : List Person). Joins list before.dereserved some coming) (joined_people list before.dereserved (people_of list more after Dereserved) coming there) there
+      let there : Joins list (before Dereserved) (people_of list more after Dereserved) coming = subst (λ (some : List Person). Joins list some (people_of list more after Dereserved) coming) (sym whole) joined in
+      subst (λ (some : List Person). Joins list (before Dereserved) some coming) (joined_people list (before Dereserved) (people_of list more after Dereserved) coming there) there
 
   pub ranked_offer : (version : ℕ) (seats : ProgrammeSeats) (people more : List Person) (before after : Admissions) (person : Person) → AreProgrammeSeats seats → Joins seats.list people more (Some person)
       → AreAmong people (everybody before) → IsProgrammeChoice version seats people before → IsOffered version seats before person after → IsProgrammeChoice version seats more after
   ranked_offer version seats people more before after person ok j all choice offered =
       let list = seats.list in
       let way = course version seats people more before after person j choice offered in
-      let rest = way.rest in
-      let rest4 = way.last in
-      let ews_passes = way.ews_passes in
-      let obc_passes = way.obc_passes in
-      let sc_passes = way.sc_passes in
       let old = rest_of people before in
       let new = rest_of more after in
-      let to_obc : joining (is_of Obc) offered.left_by_ews ≡ joining (is_of Obc) offered.left_by_open =
-      joining_later Ews Obc list (seats_of seats EwsStep) old before.ews after.ews offered.left_by_open offered.left_by_ews (λ e. cc e) choice.ews.may.people ews_passes offered.ews in
-      let to_sc : joining (is_of Sc) offered.left_by_obc ≡ joining (is_of Sc) offered.left_by_open =
-      joining_later Obc Sc list (seats_of seats ObcStep) old before.obc after.obc offered.left_by_ews offered.left_by_obc (λ e. cc e) choice.obc.may.people obc_passes offered.obc
-      ∙ joining_later Ews Sc list (seats_of seats EwsStep) old before.ews after.ews offered.left_by_open offered.left_by_ews (λ e. cc e) choice.ews.may.people ews_passes offered.ews in
-      let to_st : joining (is_of St) offered.left_by_sc ≡ joining (is_of St) offered.left_by_open =
-      joining_later Sc St list (seats_of seats ScStep) old before.sc after.sc offered.left_by_obc offered.left_by_sc (λ e. cc e) choice.sc.may.people sc_passes offered.sc
-      ∙ joining_later Obc St list (seats_of seats ObcStep) old before.obc after.obc offered.left_by_ews offered.left_by_obc (λ e. cc e) choice.obc.may.people obc_passes offered.obc
-      ∙ joining_later Ews St list (seats_of seats EwsStep) old before.ews after.ews offered.left_by_open offered.left_by_ews (λ e. cc e) choice.ews.may.people ews_passes offered.ews in
-      let last : people_of list more after Dereserved ≡ entered list before.dereserved (joining (is_common list) offered.left_by_st) =
-      joined_people list (filter (is_common list) (left_over people before)) (filter (is_common list) (left_over more after)) (joining (is_common list) offered.left_by_st)
-      (filter_joins list (is_common list) (left_over people before) (left_over more after) offered.left_by_st rest4)
-      ∙ ap (λ (some : List Person). entered list some (joining (is_common list) offered.left_by_st)) (sym (last_whole version seats people before j.ranked all choice)) in
-      record {
-        open_step = joined_choice list (seats_of seats Open) (filter (is_common list) people) (filter (is_common list) more) before.open_step after.open_step (joining (is_common list) (Some person)) ok.list (ok.steps Open)
-            (filter_joins list (is_common list) people more (Some person) j) choice.open_step
-            (offered_choice (is_common list) list (seats_of seats Open) before.open_step (Some person) offered.left_by_open after.open_step offered.open_step);
-        ews = joined_choice list (seats_of seats EwsStep) (filter (is_of Ews) old) (filter (is_of Ews) new) before.ews after.ews (joining (is_of Ews) offered.left_by_open) ok.list (ok.steps EwsStep)
-            (filter_joins list (is_of Ews) old new offered.left_by_open rest) choice.ews
-            (offered_choice (is_of Ews) list (seats_of seats EwsStep) before.ews offered.left_by_open offered.left_by_ews after.ews offered.ews);
-        obc = joined_choice list (seats_of seats ObcStep) (filter (is_of Obc) old) (filter (is_of Obc) new) before.obc after.obc (joining (is_of Obc) offered.left_by_open) ok.list (ok.steps ObcStep)
-            (filter_joins list (is_of Obc) old new offered.left_by_open rest) choice.obc
-            (subst (λ (o : Option Person). ChosenWith list (seats_of seats ObcStep) before.obc o after.obc) to_obc
-            (offered_choice (is_of Obc) list (seats_of seats ObcStep) before.obc offered.left_by_ews offered.left_by_obc after.obc offered.obc));
-        sc = joined_choice list (seats_of seats ScStep) (filter (is_of Sc) old) (filter (is_of Sc) new) before.sc after.sc (joining (is_of Sc) offered.left_by_open) ok.list (ok.steps ScStep)
-            (filter_joins list (is_of Sc) old new offered.left_by_open rest) choice.sc
-            (subst (λ (o : Option Person). ChosenWith list (seats_of seats ScStep) before.sc o after.sc) to_sc
-            (offered_choice (is_of Sc) list (seats_of seats ScStep) before.sc offered.left_by_obc offered.left_by_sc after.sc offered.sc));
-        st = joined_choice list (seats_of seats StStep) (filter (is_of St) old) (filter (is_of St) new) before.st after.st (joining (is_of St) offered.left_by_open) ok.list (ok.steps StStep)
-            (filter_joins list (is_of St) old new offered.left_by_open rest) choice.st
-            (subst (λ (o : Option Person). ChosenWith list (seats_of seats StStep) before.st o after.st) to_st
-            (offered_choice (is_of St) list (seats_of seats StStep) before.st offered.left_by_sc offered.left_by_st after.st offered.st));
-        dereserved = last_best list (unfilled version seats after) before.dereserved offered.left_by_st offered.left_out after.dereserved offered.dereserved
-            ∙ ap (λ (some : List Person). take (unfilled version seats after) some) (sym last);
-      }
+      let come = offered.left_by_categories in
+      let last : people_of list more after Dereserved ≡ entered list (before Dereserved) (joining (is_common list) come) =
+      joined_people list (filter (is_common list) (left_over people before)) (filter (is_common list) (left_over more after)) (joining (is_common list) come)
+      (filter_joins list (is_common list) (left_over people before) (left_over more after) come way.last)
+      ∙ ap (λ (some : List Person). entered list some (joining (is_common list) come)) (sym (last_whole version seats people before j.ranked all choice)) in
+      made_choice version seats more after
+      (joined_choice list (seats_of seats Open) (filter (is_common list) people) (filter (is_common list) more) (before Open) (after Open) (joining (is_common list) (Some person)) ok.list (ok.steps Open)
+      (filter_joins list (is_common list) people more (Some person) j) (open_choice version seats people before choice)
+      (offered_choice (is_common list) list (seats_of seats Open) (before Open) (Some person) offered.left_by_open (after Open) offered.open_step))
+      (λ row here. joined_choice list (seats_of seats row.step) (filter (is_of row.category) old) (filter (is_of row.category) new) (before row.step) (after row.step)
+      (joining (is_of row.category) offered.left_by_open) ok.list (ok.steps row.step)
+      (filter_joins list (is_of row.category) old new offered.left_by_open way.rest) (row_choice version seats people before choice row here)
+      (rows_choose seats category_steps old new before after offered.left_by_open come (are_there version seats people before j.ranked.distinct choice) way.rest offered.categories row here))
+      (last_best list (unfilled version seats after) (before Dereserved) come offered.left_out (after Dereserved) offered.dereserved
+      ∙ ap (λ (some : List Person). take (unfilled version seats after) some) (sym last))
 
   -- one applicant more, by merit
   pub starts : (list : ListId) (held : List Person) (person : Person) → AreApplicants list (person ∷ held) → Joins list (in_merit list held) (in_merit list (person ∷ held)) (Some person)

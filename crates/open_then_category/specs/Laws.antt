@@ -1,29 +1,30 @@
 -- The laws of the choice of a programme, as statements over its definition. The people come in any order.
-use Rattle.std.specs.Prelude.{◌≡◌, ◌≢◌, ◌⊎◌, ◌≤◌, ◌<◌, ◌+◌, ◌∷◌, ℕ, List, length, true}
+use Rattle.std.specs.Prelude.{◌≡◌, ◌≢◌, ◌⊎◌, ◌≤◌, ◌<◌, [], ◌∷◌, ℕ, List, length, map, sum, true, if◌then◌else◌}
 use Rattle.std.specs.List.{AllByRecursion, filter}
+use Rattle.office_base.specs.CategorySteps.{all_steps, category_steps, gives_up}
 use Rattle.office_base.specs.Lists.{IsAmong}
 use Rattle.office_base.specs.Person.{IsBetter, is_common}
 use Rattle.office_base.specs.Placement.{IsHonoured}
 use Rattle.office_base.specs.StepChoice.{AreRanked, IsStepChoice, MayAdmit}
+use Rattle.office_base.specs.declared.category_steps.CategoryStep.{CategoryStep}
 use Rattle.office_base.specs.declared.person.Category.{Category}
-use Rattle.office_base.specs.declared.person.Category.TheVariants.{Gen, Ews, Obc, Sc, St}
+use Rattle.office_base.specs.declared.person.Category.TheVariants.{Gen}
 use Rattle.office_base.specs.declared.person.Person.{Person}
 use Rattle.office_base.specs.declared.step.Step.{Step}
 use Rattle.office_base.specs.declared.step.StepKind.{StepKind}
-use Rattle.office_base.specs.declared.step.StepKind.TheVariants.{Open, Ews as EwsStep, Obc as ObcStep, Sc as ScStep, St as StStep}
+use Rattle.office_base.specs.declared.step.StepKind.TheVariants.{Open, Dereserved}
 use Rattle.placements.specs.Ranks.{AreAmong, AreDistinct, without}
 use Rattle.allocations.specs.Rule.{AdmitsNoFewer, ChoosesWell, Grows}
 use Rattle.seat_matrix.specs.Seats.{AreProgrammeSeats, HaveMoreSeats, seats_of}
 use Rattle.seat_matrix.specs.declared.seats.ProgrammeSeats.{ProgrammeSeats}
 use Rattle.programme_lists.specs.Chosen.{AdmitsUnder, AreApplicants, ChoosesFrom, IsAdmitted, IsRefused, IsWith, ShowsFrom, everybody}
 use Rattle.programme_lists.specs.Listing.{seats_filled}
-use Rattle.programme_lists.specs.Programme.{Admissions, IsProgrammeChoice, admitted_by, people_of, step_with, unfilled}
+use Rattle.programme_lists.specs.Programme.{Admissions, IsProgrammeChoice, admitted_by, is_same, people_of, step_with, unfilled}
 use Rattle.programme_lists.specs.declared.programme.Programme.{Programme}
 
 -- how many persons the steps admit in all
 abbrev pub admitted_in_all : Admissions → ℕ
-admitted_in_all admissions =
-    length admissions.open_step + length admissions.ews + length admissions.obc + length admissions.sc + length admissions.st + length admissions.dereserved
+admitted_in_all admissions = sum (map (λ kind. length (admissions kind)) all_steps)
 
 -- a programme has at most one choice
 abbrev pub OneProgrammeChoice : Type 0
@@ -137,12 +138,12 @@ GrowsWithSeats = (version : ℕ) (seats more : ℕ → ProgrammeSeats) → ((p :
 -- ---- de-reservation comes last
 
 -- the step that has the seats of a category; a person of none has the open ones alone
+abbrev pub step_among : Category → List CategoryStep → StepKind
+step_among category [] = Open
+step_among category (row ∷ rows) = if is_same category row.category then row.step else step_among category rows
+
 abbrev pub own_step : Category → StepKind
-own_step Gen = Open
-own_step Ews = EwsStep
-own_step Obc = ObcStep
-own_step Sc = ScStep
-own_step St = StStep
+own_step category = step_among category category_steps
 
 -- a seat of the category is empty after its own step
 abbrev pub HasEmptySeat : ProgrammeSeats → Admissions → Category → Type 0
@@ -151,7 +152,7 @@ HasEmptySeat seats admissions category = length (admitted_by admissions (own_ste
 -- each of the people who is of the category is admitted by the open step or by the category's own
 abbrev pub AreAllAdmitted : List Person → Admissions → Category → Type 0
 AreAllAdmitted people admissions category =
-    (person : Person) → IsAmong person people → person.category ≡ category → IsAmong person admissions.open_step ⊎ IsAmong person (admitted_by admissions (own_step category))
+    (person : Person) → IsAmong person people → person.category ≡ category → IsAmong person (admissions Open) ⊎ IsAmong person (admitted_by admissions (own_step category))
 
 -- No seat of a category stays empty while one of its members is not admitted: where one is empty, the open step or the category's own admits every
 -- applicant of the category, whatever their places.
@@ -159,17 +160,19 @@ abbrev pub NoSeatStaysEmpty : Type 0
 NoSeatStaysEmpty = (version : ℕ) (seats : ProgrammeSeats) (people : List Person) (admissions : Admissions) (category : Category) → AreProgrammeSeats seats → AreApplicants seats.list people
     → ChoosesFrom version seats people admissions → category ≢ Gen → HasEmptySeat seats admissions category → AreAllAdmitted people admissions category
 
--- the category left a seat empty, and has nobody left for it
-pub record IsServed (seats : ProgrammeSeats) (people : List Person) (admissions : Admissions) (category : Category) : Type 0 where
-  pub empty : HasEmptySeat seats admissions category
-  pub served : AreAllAdmitted people admissions category
+-- The category of the row left a seat empty, and has nobody left for it, and its empty seats go to the de-reserved step in this version.
+pub record IsServed (version : ℕ) (seats : ProgrammeSeats) (people : List Person) (admissions : Admissions) (row : CategoryStep) : Type 0 where
+  pub listed : IsAmong row category_steps
+  pub given : gives_up row version ≡ true
+  pub empty : HasEmptySeat seats admissions row.category
+  pub served : AreAllAdmitted people admissions row.category
 
--- De-reservation comes last: where the de-reserved step has a seat, or admits somebody, OBC left a seat empty and has nobody left for it, or, in
--- version 2 alone, EWS did. (Where both left some, neither has anybody left: NoSeatStaysEmpty.)
+-- De-reservation comes last: where the de-reserved step has a seat, or admits somebody, a category whose empty seats go to it in this version left
+-- one empty and has nobody left for it. (Where several left some, none of them has anybody left: NoSeatStaysEmpty.)
 abbrev pub DereservationComesLast : Type 0
 DereservationComesLast = (version : ℕ) (seats : ProgrammeSeats) (people : List Person) (admissions : Admissions) → AreProgrammeSeats seats → AreApplicants seats.list people
-    → ChoosesFrom version seats people admissions → (0 < unfilled version seats admissions) ⊎ (0 < length admissions.dereserved)
-    → IsServed seats people admissions Obc ⊎ ((version ≡ 2) × IsServed seats people admissions Ews)
+    → ChoosesFrom version seats people admissions → (0 < unfilled version seats admissions) ⊎ (0 < length (admissions Dereserved))
+    → (row : CategoryStep) × IsServed version seats people admissions row
 
 -- ---- the axioms
 
@@ -196,15 +199,15 @@ pub record MeetsStepAxioms (step : Step) (chosen : List Person) : Type 0 where
 -- admits a person with a common place, all open seats are taken. In the place of somebody worse there, the person
 -- would make the step honour fewer protections. In addition to those there, the person would make it honour no more.
 pub record IsOverAndAbove (seats : ProgrammeSeats) (admissions : Admissions) (person : Person) : Type 0 where
-  pub full : length admissions.open_step ≡ (seats_of seats Open).seats
-  pub no_place : (worse : Person) (m n : ℕ) → IsAmong worse admissions.open_step → IsBetter seats.list person worse
-      → IsHonoured (seats_of seats Open).protections (person ∷ without worse.id admissions.open_step) m → IsHonoured (seats_of seats Open).protections admissions.open_step n → m < n
-  pub no_more : (m n : ℕ) → IsHonoured (seats_of seats Open).protections (person ∷ admissions.open_step) m → IsHonoured (seats_of seats Open).protections admissions.open_step n → m ≤ n
+  pub full : length (admissions Open) ≡ (seats_of seats Open).seats
+  pub no_place : (worse : Person) (m n : ℕ) → IsAmong worse (admissions Open) → IsBetter seats.list person worse
+      → IsHonoured (seats_of seats Open).protections (person ∷ without worse.id (admissions Open)) m → IsHonoured (seats_of seats Open).protections (admissions Open) n → m < n
+  pub no_more : (m n : ℕ) → IsHonoured (seats_of seats Open).protections (person ∷ (admissions Open)) m → IsHonoured (seats_of seats Open).protections (admissions Open) n → m ≤ n
 
 -- The axioms of Sönmez and Yenmez (Econometrica 2022), for a programme with open seats first and a de-reserved step last.
 pub record MeetsAxioms (version : ℕ) (seats : ProgrammeSeats) (applicants : List Person) (admissions : Admissions) : Type 0 where
   -- open first: the open step chooses from all applicants with a common place, whatever the categories do
-  pub open_first : IsStepChoice (step_with seats.list (seats_of seats Open) (filter (is_common seats.list) applicants)) admissions.open_step
+  pub open_first : IsStepChoice (step_with seats.list (seats_of seats Open) (filter (is_common seats.list) applicants)) (admissions Open)
   -- the seats of a category are over and above the open ones
   pub over_and_above : (kind : StepKind) (person : Person) → kind ≢ Open → IsAmong person (admitted_by admissions kind) → is_common seats.list person ≡ true → IsOverAndAbove seats admissions person
   -- each step, the de-reserved one too, meets those of the seats of one kind
@@ -219,4 +222,4 @@ ChoicesMeetAxioms = (version : ℕ) (seats : ProgrammeSeats) (applicants : List 
 abbrev pub OpenComesFirst : Type 0
 OpenComesFirst = (version other : ℕ) (seats others : ProgrammeSeats) (applicants : List Person) (one two : Admissions) → AreProgrammeSeats seats → AreRanked seats.list applicants
     → others.list ≡ seats.list → seats_of others Open ≡ seats_of seats Open
-    → IsProgrammeChoice version seats applicants one → IsProgrammeChoice other others applicants two → one.open_step ≡ two.open_step
+    → IsProgrammeChoice version seats applicants one → IsProgrammeChoice other others applicants two → one Open ≡ two Open

@@ -1,37 +1,29 @@
 // The choice of a programme, step by step.
-ghost use Rattle.std.specs.Prelude.{◌≡◌, ◌≤◌, ◌<◌, IfOk, length, take};
+ghost use Rattle.std.specs.Prelude.{◌≡◌, ◌≤◌, ◌<◌, ◌++◌, [], ◌∷◌, IfOk, length, take};
 ghost use Rattle.std.specs.List.{filter};
 ghost use Rattle.office_base.specs.Limits.{most_step_seats};
 ghost use Rattle.office_base.specs.Person.{IsList, is_common};
 ghost use Rattle.office_base.specs.StepChoice.{AreRanked, IsStep, IsStepChoice};
 ghost use Rattle.office_base.specs.Version.{IsVersion};
-ghost use Rattle.office_base.specs.declared.step.StepKind.TheVariants.{Open as OpenStep, Ews as EwsStep, Obc as ObcStep, Dereserved as DereservedStep};
+ghost use Rattle.office_base.specs.declared.step.StepKind.TheVariants.{Open as OpenStep, Dereserved as DereservedStep};
 ghost use Rattle.seat_matrix.specs.Matrix.{list_in, seats_in};
 ghost use Rattle.seat_matrix.specs.Seats.{AreProgrammeSeats, no_protections, seats_of};
 ghost use Rattle.programme_lists.specs.Chosen.{AreApplicants, ShowsFrom};
 ghost use Rattle.programme_lists.specs.Listing.{Shows, ShowsChoice};
-ghost use Rattle.programme_lists.specs.Programme.{is_of, without, step_with};
-ghost use Rattle.open_then_category.specs.Stepwise.{AreCategorySteps, ShowsFromRest, ShowsLast, empty_after};
+ghost use Rattle.programme_lists.specs.Programme.{step_with, without};
+ghost use Rattle.open_then_category.specs.Stepwise.{AreCategorySteps, AreWithin, IsCategoryStep, ShowsFromRest, ShowsLast, empty_after};
 
 use crate::filters::{left_over, members, without};
 use dereserve::{commons, fill, left_unfilled};
 use merit_choice::{choose, in_merit_order};
 use office_base::{
-    Category, ListId, OutOfMemory, People, Person, ProgId, Protections, Step, StepKind,
+    CATEGORY_STEPS, CategoryStep, ListId, OutOfMemory, People, Person, ProgId, Protections, Step,
+    StepKind,
 };
 use programme_lists::{Programme, StepList};
 use seat_matrix::{Matrix, ProgrammeSeats, Seating};
 use slot_cert::{Cert, canonical_pairs};
 use std::alloc::Global;
-
-/// The lists of the four categories of a programme.
-#[derive(Drop)]
-pub(crate) struct CategorySteps {
-    ews: StepList,
-    obc: StepList,
-    sc: StepList,
-    st: StepList,
-}
 
 /// The list of a step with these people.
 fn step_list(
@@ -87,22 +79,18 @@ fn open_step(
 /// The step of a category: its people are the members whom the open step left.
 fn category_step(
     alloc: Global,
-    kind: StepKind,
-    category: Category,
+    row: CategoryStep,
     seats: &ProgrammeSeats,
     rest: &[Person],
 ) -> Result<StepList, OutOfMemory>
     requires seats { AreProgrammeSeats seats.now }
     requires ranked { AreRanked seats.now.list rest.now }
     requires few { length rest.now ≤ 4294967295 }
-    ensures choice { IfOk result (λ shown. IsStepChoice (step_with seats.now.list
-        (seats_of seats.now kind) (filter (is_of category) rest.now)) shown.admitted) }
-    ensures shows { IfOk result (λ shown. Shows kind (seats_of seats.now kind).seats (seats_of
-        seats.now kind).protections (filter (is_of category) rest.now) shown.admitted shown) }
+    ensures { IfOk result (IsCategoryStep seats.now rest.now row) }
 {
-    let step_seats = seats.of(kind);
-    let people = members(alloc, rest, category)?;
-    step_list(alloc, kind, seats.list, &step_seats, people)
+    let step_seats = seats.of(row.step);
+    let people = members(alloc, rest, row.category)?;
+    step_list(alloc, row.step, seats.list, &step_seats, people)
 }
 
 /// The step of de-reserved seats, from those whom the other steps left.
@@ -139,41 +127,41 @@ fn held_by(list: &StepList) -> u16
     list.admitted.len() as u16
 }
 
-/// The steps of the four categories.
+/// The steps of the categories, in the order of their rows.
 fn category_steps(
     alloc: Global,
     seats: &ProgrammeSeats,
     rest: &[Person],
-) -> Result<CategorySteps, OutOfMemory>
+) -> Result<[StepList; 4], OutOfMemory>
     requires seats { AreProgrammeSeats seats.now }
     requires ranked { AreRanked seats.now.list rest.now }
     requires few { length rest.now ≤ 4294967295 }
     ensures { IfOk result (AreCategorySteps seats.now rest.now) }
 {
-    let ews = category_step(alloc, StepKind::Ews, Category::Ews, seats, rest)?;
-    let obc = category_step(alloc, StepKind::Obc, Category::Obc, seats, rest)?;
-    let sc = category_step(alloc, StepKind::Sc, Category::Sc, seats, rest)?;
-    let st = category_step(alloc, StepKind::St, Category::St, seats, rest)?;
-    Ok(CategorySteps { ews, obc, sc, st })
+    Ok([
+        category_step(alloc, CATEGORY_STEPS[0], seats, rest)?,
+        category_step(alloc, CATEGORY_STEPS[1], seats, rest)?,
+        category_step(alloc, CATEGORY_STEPS[2], seats, rest)?,
+        category_step(alloc, CATEGORY_STEPS[3], seats, rest)?,
+    ])
 }
 
 /// How many seats the categories leave to the de-reserved step.
-fn empty_seats(version: u8, seats: &ProgrammeSeats, steps: &CategorySteps) -> u32
+fn empty_seats(version: u8, seats: &ProgrammeSeats, first: &StepList, lists: &[StepList; 4]) -> u32
     requires version { IsVersion version }
     requires seats { AreProgrammeSeats seats.now }
-    requires ews { length steps.now.ews.admitted ≤ (seats_of seats.now EwsStep).seats }
-    requires obc { length steps.now.obc.admitted ≤ (seats_of seats.now ObcStep).seats }
-    ensures { result ≡ empty_after version seats.now steps.now }
+    requires first { length first.now.admitted ≤ (seats_of seats.now OpenStep).seats }
+    requires lists { AreWithin seats.now lists.now }
+    ensures { result ≡ empty_after version seats.now (first.now ∷ lists.now) }
 {
-    let ews_seats = seats.of(StepKind::Ews).seats;
-    let obc_seats = seats.of(StepKind::Obc).seats;
-    left_unfilled(
-        version,
-        ews_seats,
-        held_by(&steps.ews),
-        obc_seats,
-        held_by(&steps.obc),
-    )
+    let held = [
+        held_by(first),
+        held_by(&lists[0]),
+        held_by(&lists[1]),
+        held_by(&lists[2]),
+        held_by(&lists[3]),
+    ];
+    left_unfilled(version, &seats.steps, &held)
 }
 
 /// The step of de-reserved seats, from those of the rest whom the categories left.
@@ -182,25 +170,30 @@ fn last_step(
     version: u8,
     seats: &ProgrammeSeats,
     rest: &[Person],
-    steps: &CategorySteps,
+    first: &StepList,
+    lists: &[StepList; 4],
 ) -> Result<StepList, OutOfMemory>
     requires version { IsVersion version }
     requires seats { AreProgrammeSeats seats.now }
     requires ranked { AreRanked seats.now.list rest.now }
     requires few { length rest.now ≤ 4294967295 }
-    requires steps { AreCategorySteps seats.now rest.now steps.now }
-    ensures { IfOk result (ShowsLast version seats.now rest.now steps.now) }
+    requires first { length first.now.admitted ≤ (seats_of seats.now OpenStep).seats }
+    requires lists { AreCategorySteps seats.now rest.now lists.now }
+    ensures { IfOk result (ShowsLast version seats.now rest.now first.now lists.now) }
 {
-    let left = left_over(
-        alloc,
-        rest,
-        steps.ews.admitted.as_slice(),
-        steps.obc.admitted.as_slice(),
-        steps.sc.admitted.as_slice(),
-        steps.st.admitted.as_slice(),
-    )?;
-    let empty = empty_seats(version, seats, steps);
+    let left = left_over(alloc, rest, lists)?;
+    let empty = empty_seats(version, seats, first, lists);
     dereserved_step(alloc, seats.list, empty, left.as_slice())
+}
+
+/// The lists of a programme, in the order of the steps.
+pub(crate) fn programme_of(first: StepList, lists: [StepList; 4], last: StepList) -> Programme
+    ensures { result.steps ≡ first ∷ lists ++ last ∷ [] }
+{
+    let [second, third, fourth, fifth] = lists;
+    Programme {
+        steps: [first, second, third, fourth, fifth, last],
+    }
 }
 
 /// Returns the choice of a programme from those whom its open step left, who are in merit order.
@@ -215,14 +208,12 @@ fn choose_from_rest(
     requires seats { AreProgrammeSeats seats.now }
     requires ranked { AreRanked seats.now.list rest.now }
     requires few { length rest.now ≤ 4294967295 }
+    requires first { length first.admitted ≤ (seats_of seats.now OpenStep).seats }
     ensures { IfOk result (λ programme. ShowsFromRest version seats.now first rest.now programme) }
 {
-    let steps = category_steps(alloc, seats, rest)?;
-    let last = last_step(alloc, version, seats, rest, &steps)?;
-    let CategorySteps { ews, obc, sc, st } = steps;
-    Ok(Programme {
-        steps: [first, ews, obc, sc, st, last],
-    })
+    let lists = category_steps(alloc, seats, rest)?;
+    let last = last_step(alloc, version, seats, rest, &first, &lists)?;
+    Ok(programme_of(first, lists, last))
 }
 
 /// Returns the choice of a programme from applicants in merit order, the best first. Walks through the people of each

@@ -3,24 +3,19 @@ ghost use Rattle.std.specs.Prelude.{◌≡◌, List, IfOk};
 ghost use Rattle.std.specs.List.{filter};
 ghost use Rattle.office_base.specs.Lists.{IsSublist};
 ghost use Rattle.office_base.specs.StepChoice.{AreRanked};
-ghost use Rattle.office_base.specs.declared.person.Category.TheVariants.{Ews, Obc, Sc, St};
 ghost use Rattle.office_base.specs.declared.person.ListId.{ListId as AnyList};
 ghost use Rattle.programme_lists.specs.Programme.{is_of, without};
+ghost use Rattle.open_then_category.specs.Stepwise.{AreTaken, left_of};
 
 use office_base::{Category, OutOfMemory, People, Person};
+use programme_lists::StepList;
 use std::alloc::Global;
 
 /// Whether the person is of the category.
 pub(crate) fn is_of(person: &Person, category: Category) -> bool
     ensures { result ≡ is_of category person.now }
 {
-    match category {
-        Category::Gen => matches!(person.category, Category::Gen),
-        Category::Ews => matches!(person.category, Category::Ews),
-        Category::Obc => matches!(person.category, Category::Obc),
-        Category::Sc => matches!(person.category, Category::Sc),
-        Category::St => matches!(person.category, Category::St),
-    }
+    person.category == category
 }
 
 /// Those of the people who are of the category, in their order.
@@ -62,25 +57,21 @@ pub(crate) fn without(
     Ok(left)
 }
 
-/// Those of the rest whom no category took. The persons of each category are members among the rest, in its order.
+/// Returns those of the people whom none of these lists admits. The persons of each list are among the people, in their
+/// order, and in no other list.
 pub(crate) fn left_over(
     alloc: Global,
-    rest: &[Person],
-    ews: &[Person],
-    obc: &[Person],
-    sc: &[Person],
-    st: &[Person],
+    people: &[Person],
+    lists: &[StepList],
 ) -> Result<People, OutOfMemory>
-    requires ranked { (list : AnyList) × AreRanked list rest.now }
-    requires ews { IsSublist ews.now (filter (is_of Ews) rest.now) }
-    requires obc { IsSublist obc.now (filter (is_of Obc) rest.now) }
-    requires sc { IsSublist sc.now (filter (is_of Sc) rest.now) }
-    requires st { IsSublist st.now (filter (is_of St) rest.now) }
-    ensures { IfOk result (λ left.
-        left ≡ without (without (without (without rest.now ews.now) obc.now) sc.now) st.now) }
+    requires ranked { (list : AnyList) × AreRanked list people.now }
+    requires taken { AreTaken people.now lists.now }
+    ensures { IfOk result (λ left. left ≡ left_of people.now lists.now) }
 {
-    let no_ews = without(alloc, rest, ews)?;
-    let no_obc = without(alloc, no_ews.as_slice(), obc)?;
-    let no_sc = without(alloc, no_obc.as_slice(), sc)?;
-    without(alloc, no_sc.as_slice(), st)
+    let mut left = People::new(alloc);
+    left.extend_from_slice(people)?;
+    for list in lists {
+        left = without(alloc, left.as_slice(), list.admitted.as_slice())?;
+    }
+    Ok(left)
 }

@@ -1,22 +1,28 @@
 // The lists of a programme that keeps the choice from all who came, by how many came.
-ghost use Rattle.std.specs.Prelude.{◌≡◌, ◌≤◌, ◌<◌, ◌+◌, [], List, IfOk, length};
+ghost use Rattle.std.specs.Prelude.{◌≡◌, ◌≤◌, ◌<◌, [], List, IfOk, false, length, map};
 ghost use Rattle.std.specs.List.{AllByRecursion, filter};
+ghost use Rattle.office_base.specs.CategorySteps.{category_steps, own_steps};
 ghost use Rattle.office_base.specs.Person.{IsList, IsTraitSet, is_common};
 ghost use Rattle.office_base.specs.declared.person.Person.{Person as AnyPerson};
 ghost use Rattle.placements.specs.Ranks.{AreDistinct};
 ghost use Rattle.office_base.specs.Limits.{most_step_seats};
-ghost use Rattle.office_base.specs.declared.step.StepKind.TheVariants.{Open as OpenStep};
-ghost use Rattle.seat_matrix.specs.Seats.{seats_of};
+ghost use Rattle.office_base.specs.declared.step.StepKind.TheVariants.{Open as OpenStep, Dereserved as DereservedStep};
 ghost use Rattle.programme_lists.specs.Chosen.{ShowsFrom};
 ghost use Rattle.programme_lists.specs.Listing.{Shows};
-ghost use Rattle.programme_lists.specs.Programme.{admitted_by, is_of};
-ghost use Rattle.open_then_category.specs.Tried.{AreFirst, AreLast, HaveCome, ShowsCategory, ShowsDereserved, common_taken, counted, with_one};
+ghost use Rattle.programme_lists.specs.Programme.{is_of};
+ghost use Rattle.seat_matrix.specs.Seats.{is_dereserved};
+ghost use Rattle.open_then_category.specs.State.{IsProgrammeKept, admissions_of};
+ghost use Rattle.open_then_category.specs.Tried.{AreCounted, HaveCome, ShowCategories, ShowsCategory, ShowsDereserved, ShowsOpen, common_taken, counted, with_member, with_one};
 
+use crate::choice::programme_of;
 use crate::filters::is_of;
 use crate::laws::step_laws;
 use crate::state::ProgrammeState;
 use dereserve::{is_common, left_unfilled};
-use office_base::{Category, ListId, OutOfMemory, People, Person, Protections, StepKind};
+use office_base::{
+    CATEGORY_STEPS, Category, CategoryStep, ListId, OutOfMemory, People, Person, Protections,
+    StepKind,
+};
 use programme_lists::{Programme, StepList};
 use slot_cert::{Cert, canonical_pairs};
 use std::alloc::Global;
@@ -27,10 +33,8 @@ use std::alloc::Global;
 pub struct Tried {
     pub list: ListId,
     pub common: u32,
-    pub ews: u32,
-    pub obc: u32,
-    pub sc: u32,
-    pub st: u32,
+    /// By the rows of the categories.
+    pub members: [u32; 4],
 }
 
 impl Tried {
@@ -41,10 +45,7 @@ impl Tried {
         Tried {
             list,
             common: 0,
-            ews: 0,
-            obc: 0,
-            sc: 0,
-            st: 0,
+            members: [0; 4],
         }
     }
 
@@ -52,22 +53,24 @@ impl Tried {
     pub fn add(&mut self, person: &Person)
         requires list { IsList self.old.list }
         requires common { self.old.common < 4294967295 }
-        requires ews { self.old.ews < 4294967295 }
-        requires obc { self.old.obc < 4294967295 }
-        requires sc { self.old.sc < 4294967295 }
-        requires st { self.old.st < 4294967295 }
+        requires members { AllByRecursion (λ count. count < 4294967295) self.old.members }
         ensures { self.new ≡ with_one person.now self.old }
     {
         if is_common(person, self.list) {
             self.common += 1;
         }
-        match person.category {
-            Category::Gen => {}
-            Category::Ews => self.ews += 1,
-            Category::Obc => self.obc += 1,
-            Category::Sc => self.sc += 1,
-            Category::St => self.st += 1,
-        }
+        count_member(&CATEGORY_STEPS, &mut self.members, person);
+    }
+}
+
+/// The person is counted for each row whose category the person is of.
+fn count_member(rows: &[CategoryStep; 4], members: &mut [u32; 4], person: &Person)
+    requires { AllByRecursion (λ count. count < 4294967295) members.old }
+    ensures { members.new ≡ with_member person.now rows.now members.old }
+{
+    for i in 0..rows.len() {
+        let row = &rows[i];
+        members[i] += u32::from(is_of(person, row.category));
     }
 }
 
@@ -129,12 +132,10 @@ fn list_of(
 
 /// Returns the list of the open step: all with a common place who came competed for its seats.
 fn open_list(alloc: Global, state: &ProgrammeState, came: u32) -> Result<StepList, OutOfMemory>
-    requires distinct { AreDistinct state.now.admissions.open_step }
+    requires distinct { AreDistinct (admissions_of state.now OpenStep) }
     requires traits { AllByRecursion (λ person. IsTraitSet person.traits)
-        state.now.admissions.open_step }
-    ensures { IfOk result (λ list. (people : List AnyPerson) → length people ≡ came
-        → Shows OpenStep (seats_of state.now.seats OpenStep).seats (seats_of state.now.seats
-        OpenStep).protections people state.now.admissions.open_step list) }
+        (admissions_of state.now OpenStep) }
+    ensures { IfOk result (ShowsOpen state.now came) }
 {
     let seats = state.programme_seats().of(StepKind::Open);
     list_of(
@@ -152,57 +153,89 @@ fn open_list(alloc: Global, state: &ProgrammeState, came: u32) -> Result<StepLis
 fn category_list(
     alloc: Global,
     state: &ProgrammeState,
-    kind: StepKind,
-    category: Category,
+    row: CategoryStep,
     came: u32,
 ) -> Result<StepList, OutOfMemory>
-    requires distinct { AreDistinct (admitted_by state.now.admissions kind) }
+    requires distinct { AreDistinct (admissions_of state.now row.step) }
     requires traits { AllByRecursion (λ person. IsTraitSet person.traits)
-        (admitted_by state.now.admissions kind) }
-    requires few { length (filter (is_of category) state.now.admissions.open_step) ≤ came }
-    ensures { IfOk result (λ list. ShowsCategory state.now kind category came list) }
+        (admissions_of state.now row.step) }
+    requires few { length (filter (is_of row.category) (admissions_of state.now OpenStep)) ≤ came }
+    ensures { IfOk result (ShowsCategory state.now row came) }
 {
-    let seats = state.programme_seats().of(kind);
-    let candidates = came - count_members(state.admitted(StepKind::Open), category);
+    let seats = state.programme_seats().of(row.step);
+    let candidates = came - count_members(state.admitted(StepKind::Open), row.category);
     list_of(
         alloc,
-        kind,
+        row.step,
         u32::from(seats.seats),
         &seats.protections,
         candidates,
-        state.admitted(kind),
+        state.admitted(row.step),
     )
 }
 
-/// How many of those whom the five steps before the de-reserved one admit have a common place.
+/// Returns the lists of the categories' steps, in the order of their rows.
+fn category_lists(
+    alloc: Global,
+    state: &ProgrammeState,
+    members: &[u32; 4],
+) -> Result<[StepList; 4], OutOfMemory>
+    requires { AreCounted state.now category_steps members.now }
+    ensures { IfOk result (ShowCategories state.now category_steps members.now) }
+{
+    let first = category_list(alloc, state, CATEGORY_STEPS[0], members[0])?;
+    let second = category_list(alloc, state, CATEGORY_STEPS[1], members[1])?;
+    let third = category_list(alloc, state, CATEGORY_STEPS[2], members[2])?;
+    let fourth = category_list(alloc, state, CATEGORY_STEPS[3], members[3])?;
+    Ok([first, second, third, fourth])
+}
+
+/// How many of those whom the steps before the de-reserved one admit have a common place.
 fn count_taken(state: &ProgrammeState) -> u32
-    ensures { result ≡ common_taken state.now.seats.list state.now.admissions }
+    ensures { result ≡ common_taken state.now.seats.list (admissions_of state.now) }
 {
     let list = state.programme_seats().list;
-    count_common(state.admitted(StepKind::Open), list)
-        + count_common(state.admitted(StepKind::Ews), list)
-        + count_common(state.admitted(StepKind::Obc), list)
-        + count_common(state.admitted(StepKind::Sc), list)
-        + count_common(state.admitted(StepKind::St), list)
+    let mut taken = count_common(state.admitted(StepKind::Open), list);
+    for row in CATEGORY_STEPS {
+        taken += count_common(state.admitted(row.step), list);
+    }
+    taken
+}
+
+/// How many a step with seats of its own admits.
+fn count_held(state: &ProgrammeState, kind: StepKind) -> u16
+    requires kept { IsProgrammeKept state.now }
+    requires own { is_dereserved kind ≡ false }
+    ensures { result ≡ length (admissions_of state.now kind) }
+{
+    state.admitted(kind).len() as u16
+}
+
+/// How many each of the steps with seats of its own admits, by the number of the step.
+fn count_all_held(state: &ProgrammeState) -> [u16; 5]
+    requires { IsProgrammeKept state.now }
+    ensures { result ≡ map (λ kind. length (admissions_of state.now kind)) own_steps }
+{
+    [
+        count_held(state, StepKind::Open),
+        count_held(state, CATEGORY_STEPS[0].step),
+        count_held(state, CATEGORY_STEPS[1].step),
+        count_held(state, CATEGORY_STEPS[2].step),
+        count_held(state, CATEGORY_STEPS[3].step),
+    ]
 }
 
 /// Returns the list of the de-reserved step: of those with a common place who came, those whom no step before took
 /// competed for the seats that categories left empty.
 fn last_list(alloc: Global, state: &ProgrammeState, came: u32) -> Result<StepList, OutOfMemory>
-    requires distinct { AreDistinct state.now.admissions.dereserved }
+    requires distinct { AreDistinct (admissions_of state.now DereservedStep) }
     requires traits { AllByRecursion (λ person. IsTraitSet person.traits)
-        state.now.admissions.dereserved }
-    requires few { common_taken state.now.seats.list state.now.admissions ≤ came }
+        (admissions_of state.now DereservedStep) }
+    requires few { common_taken state.now.seats.list (admissions_of state.now) ≤ came }
     ensures { IfOk result (λ list. ShowsDereserved state.now came list) }
 {
     let seats = state.programme_seats();
-    let empty = left_unfilled(
-        state.bundle_version(),
-        seats.of(StepKind::Ews).seats,
-        state.admitted(StepKind::Ews).len() as u16,
-        seats.of(StepKind::Obc).seats,
-        state.admitted(StepKind::Obc).len() as u16,
-    );
+    let empty = left_unfilled(state.bundle_version(), &seats.steps, &count_all_held(state));
     let candidates = came - count_taken(state);
     let none = Protections { counts: [0; 6] };
     let admitted = state.admitted(StepKind::Dereserved);
@@ -214,38 +247,6 @@ fn last_list(alloc: Global, state: &ProgrammeState, came: u32) -> Result<StepLis
         candidates,
         admitted,
     )
-}
-
-/// Returns the lists of the steps OPEN, EWS and OBC.
-fn first_lists(
-    alloc: Global,
-    state: &ProgrammeState,
-    tried: &Tried,
-) -> Result<(StepList, StepList, StepList), OutOfMemory>
-    requires { (people : List AnyPerson) × HaveCome state.now tried.now people }
-    ensures { IfOk result (λ lists. AreFirst state.now tried.now lists.0 lists.1 lists.2) }
-{
-    step_laws();
-    let first = open_list(alloc, state, tried.common)?;
-    let ews = category_list(alloc, state, StepKind::Ews, Category::Ews, tried.ews)?;
-    let obc = category_list(alloc, state, StepKind::Obc, Category::Obc, tried.obc)?;
-    Ok((first, ews, obc))
-}
-
-/// Returns the lists of the steps SC and ST and of the de-reserved step.
-fn last_lists(
-    alloc: Global,
-    state: &ProgrammeState,
-    tried: &Tried,
-) -> Result<(StepList, StepList, StepList), OutOfMemory>
-    requires { (people : List AnyPerson) × HaveCome state.now tried.now people }
-    ensures { IfOk result (λ lists. AreLast state.now tried.now lists.0 lists.1 lists.2) }
-{
-    step_laws();
-    let sc = category_list(alloc, state, StepKind::Sc, Category::Sc, tried.sc)?;
-    let st = category_list(alloc, state, StepKind::St, Category::St, tried.st)?;
-    let last = last_list(alloc, state, tried.common)?;
-    Ok((sc, st, last))
 }
 
 /// Returns the six lists of a programme that keeps the choice from all who came, by how many came. They are the very
@@ -261,9 +262,8 @@ pub fn lists_of(
         tried.now people → ShowsFrom state.now.version state.now.seats people programme) }
 {
     step_laws();
-    let (first, ews, obc) = first_lists(alloc, state, tried)?;
-    let (sc, st, last) = last_lists(alloc, state, tried)?;
-    Ok(Programme {
-        steps: [first, ews, obc, sc, st, last],
-    })
+    let first = open_list(alloc, state, tried.common)?;
+    let lists = category_lists(alloc, state, &tried.members)?;
+    let last = last_list(alloc, state, tried.common)?;
+    Ok(programme_of(first, lists, last))
 }

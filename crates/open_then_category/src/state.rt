@@ -1,5 +1,6 @@
 // The choice of a programme from applicants who come one at a time.
-ghost use Rattle.std.specs.Prelude.{◌≡◌, ◌≤◌, ◌<◌, ◌+◌, [], ◌∷◌, Some, length, take, slice_get, vec_len, vec_capacity, IfOk};
+ghost use Rattle.std.specs.Prelude.{◌≡◌, ◌≤◌, ◌<◌, ◌+◌, [], ◌∷◌, Some, length, map, take, slice_get, vec_len, vec_capacity, IfOk};
+ghost use Rattle.std.specs.List.{AllByRecursion};
 ghost use Rattle.office_base.specs.Limits.{most_step_seats};
 ghost use Rattle.office_base.specs.Merit.{IsNewTo};
 ghost use Rattle.office_base.specs.Person.{IsList, is_common};
@@ -9,15 +10,17 @@ ghost use Rattle.office_base.specs.declared.person.Person.{Person as AnyPerson};
 ghost use Rattle.seat_matrix.specs.Matrix.{seats_in};
 ghost use Rattle.seat_matrix.specs.Seats.{AreProgrammeSeats};
 ghost use Rattle.programme_lists.specs.Chosen.{AreApplicants, ChoosesFrom, everybody};
-ghost use Rattle.programme_lists.specs.Programme.{admitted_by, is_of};
-ghost use Rattle.open_then_category.specs.State.{ChoosesOn, IsAnswered, IsLastOffer, IsOffer, IsProgrammeKept, empty_programme, step_kept};
-ghost use Rattle.open_then_category.specs.Stepwise.{empty_categories};
+ghost use Rattle.programme_lists.specs.Programme.{is_of};
+ghost use Rattle.open_then_category.specs.State.{AreHanded, AreNew, ChoosesOn, IsAnswered, IsLastOffer, IsOffer, IsProgrammeKept, admissions_of, categories_kept, empty_programme, nobody, step_kept};
 
 use crate::filters::is_of;
 use crate::laws::{offers_keep_choices, offers_leave_one, resumes, step_laws};
 use dereserve::{is_common, left_unfilled};
 use merit_choice::{Offered, StepState, put_in_order};
-use office_base::{Category, ListId, OutOfMemory, Person, ProgId, StepKind, Steps};
+use office_base::{
+    CATEGORY_STEPS, Category, CategoryStep, ListId, OutOfMemory, Person, ProgId, StepKind, Steps,
+    step_number,
+};
 use seat_matrix::{Matrix, ProgrammeSeats};
 use std::alloc::Global;
 use std::marker::Model;
@@ -29,22 +32,20 @@ pub struct ProgrammeState {
     version: u8,
     seats: ProgrammeSeats,
     open_step: StepState,
-    ews: StepState,
-    obc: StepState,
-    sc: StepState,
-    st: StepState,
+    /// By the rows of the categories.
+    categories: [StepState; 4],
     dereserved: Vec<Person>,
 }
 
 impl Model for ProgrammeState {
     ghost use Rattle.std.specs.Prelude.{vec_capacity};
-    ghost use Rattle.open_then_category.specs.State.{ProgrammeKept, IsStateKept};
+    ghost use Rattle.open_then_category.specs.State.{ProgrammeKept, IsStateKept, people_held};
 
     ghost Value = { ProgrammeKept };
 
-    ghost view = { λ a. record { version = a.version; seats = a.seats; admissions = record { open_step = a.open_step.held; ews = a.ews.held; obc = a.obc.held; sc = a.sc.held; st = a.st.held; dereserved = a.dereserved.items } } };
+    ghost view = { λ a. record { version = a.version; seats = a.seats; held = people_held a.open_step a.categories a.dereserved.items } };
 
-    ghost invariant = { λ a. IsStateKept (record { version = a.version; seats = a.seats; admissions = record { open_step = a.open_step.held; ews = a.ews.held; obc = a.obc.held; sc = a.sc.held; st = a.st.held; dereserved = a.dereserved.items } }) a.open_step a.ews a.obc a.sc a.st (vec_capacity a.dereserved) };
+    ghost invariant = { λ a. IsStateKept (record { version = a.version; seats = a.seats; held = people_held a.open_step a.categories a.dereserved.items }) a.open_step a.categories (vec_capacity a.dereserved) };
 }
 
 impl ProgrammeState {
@@ -62,18 +63,15 @@ impl ProgrammeState {
     {
         step_laws();
         let seats = matrix.programme(prog);
-        let room = usize::from(seats.steps.ews.seats) + usize::from(seats.steps.obc.seats) + 1;
-        let dereserved = Vec::with_capacity(alloc, room)?;
+        let most = left_unfilled(version, &seats.steps, &[0; 5]);
+        let dereserved = Vec::with_capacity(alloc, most as usize + 1)?;
         let open_step = step_state(alloc, &seats, StepKind::Open)?;
-        let CategoryStates { ews, obc, sc, st } = category_states(alloc, &seats)?;
+        let categories = category_states(alloc, &seats)?;
         Ok(ProgrammeState {
             version,
             seats,
             open_step,
-            ews,
-            obc,
-            sc,
-            st,
+            categories,
             dereserved,
         })
     }
@@ -81,11 +79,11 @@ impl ProgrammeState {
     /// Offers the person to the programme, which then admits the choice from those whom it admitted and the person.
     /// So after any offers it admits the choice from all who were offered. Allocates nothing, and counts one step.
     pub fn offer<L: Ledger>(&mut self, person: &Person, steps: &mut Steps<L>) -> Offered
-        requires { AreApplicants self.old.seats.list (person.now ∷ everybody self.old.admissions) }
+        requires { AreApplicants self.old.seats.list (person.now ∷ everybody (admissions_of self.old)) }
         // the version and the seats stay
-        ensures stays { self.new ≡ record self.old { admissions = self.new.admissions } }
+        ensures stays { self.new ≡ record self.old { held = self.new.held } }
         ensures choice { ChoosesFrom self.old.version self.old.seats
-            (person.now ∷ everybody self.old.admissions) self.new.admissions }
+            (person.now ∷ everybody (admissions_of self.old)) (admissions_of self.new) }
         ensures all { ChoosesOn person.now self.old self.new }
         ensures answer { IsAnswered self.old person.now result self.new }
         ensures cost { steps.new ≡ steps.old + 1 }
@@ -97,18 +95,10 @@ impl ProgrammeState {
         steps.tick();
         let list = self.seats.list;
         let by_open = hand_common(&mut self.open_step, list, person);
-        let by_ews = hand_member(&mut self.ews, Category::Ews, by_open);
-        let by_obc = hand_member(&mut self.obc, Category::Obc, by_ews);
-        let by_sc = hand_member(&mut self.sc, Category::Sc, by_obc);
-        let by_st = hand_member(&mut self.st, Category::St, by_sc);
-        let empty = left_unfilled(
-            self.version,
-            self.seats.steps.ews.seats,
-            held_by(&self.ews),
-            self.seats.steps.obc.seats,
-            held_by(&self.obc),
-        );
-        match keep_best(&mut self.dereserved, list, by_st, empty) {
+        let coming = hand_down(&CATEGORY_STEPS, &mut self.categories, by_open);
+        let held = held_by_steps(&self.open_step, &self.categories);
+        let empty = left_unfilled(self.version, &self.seats.steps, &held);
+        match keep_best(&mut self.dereserved, list, coming, empty) {
             None => Offered::Taken,
             Some(gone) => {
                 if gone.id == person.id {
@@ -122,15 +112,15 @@ impl ProgrammeState {
 
     /// Returns those whom a step admits, in merit order. Allocates nothing.
     pub fn admitted(&self, kind: StepKind) -> &[Person]
-        ensures { result.now ≡ admitted_by self.now.admissions kind }
+        ensures { result.now ≡ admissions_of self.now kind }
     {
-        match kind {
-            StepKind::Open => self.open_step.admitted(),
-            StepKind::Ews => self.ews.admitted(),
-            StepKind::Obc => self.obc.admitted(),
-            StepKind::Sc => self.sc.admitted(),
-            StepKind::St => self.st.admitted(),
-            StepKind::Dereserved => self.dereserved.as_slice(),
+        let number = usize::from(step_number(kind));
+        if number == 0 {
+            return self.open_step.admitted();
+        }
+        match self.categories.get(number - 1) {
+            Some(step) => step.admitted(),
+            None => self.dereserved.as_slice(),
         }
     }
 
@@ -150,26 +140,17 @@ impl ProgrammeState {
     }
 }
 
-/// The steps of the four categories.
-#[derive(Drop)]
-pub(crate) struct CategoryStates {
-    ews: StepState,
-    obc: StepState,
-    sc: StepState,
-    st: StepState,
-}
-
-/// The steps of the categories of a programme, which hold nobody.
-fn category_states(alloc: Global, seats: &ProgrammeSeats) -> Result<CategoryStates, OutOfMemory>
+/// The steps of the categories of a programme, which hold nobody, in the order of their rows.
+fn category_states(alloc: Global, seats: &ProgrammeSeats) -> Result<[StepState; 4], OutOfMemory>
     requires { AreProgrammeSeats seats.now }
-    ensures { IfOk result (λ states. states ≡ empty_categories seats.now) }
+    ensures { IfOk result (λ states. states ≡ categories_kept seats.now nobody) }
 {
-    Ok(CategoryStates {
-        ews: step_state(alloc, seats, StepKind::Ews)?,
-        obc: step_state(alloc, seats, StepKind::Obc)?,
-        sc: step_state(alloc, seats, StepKind::Sc)?,
-        st: step_state(alloc, seats, StepKind::St)?,
-    })
+    Ok([
+        step_state(alloc, seats, CATEGORY_STEPS[0].step)?,
+        step_state(alloc, seats, CATEGORY_STEPS[1].step)?,
+        step_state(alloc, seats, CATEGORY_STEPS[2].step)?,
+        step_state(alloc, seats, CATEGORY_STEPS[3].step)?,
+    ])
 }
 
 /// A step of a programme that holds nobody.
@@ -188,10 +169,24 @@ fn step_state(
 /// How many a step holds.
 fn held_by(step: &StepState) -> u16
     requires { step.now.seats ≤ most_step_seats }
-    ensures held { result ≡ length step.now.held }
-    ensures few { length step.now.held ≤ step.now.seats }
+    ensures { result ≡ length step.now.held }
 {
     step.admitted().len() as u16
+}
+
+/// How many each of the steps with seats of its own holds, by the number of the step.
+fn held_by_steps(open_step: &StepState, categories: &[StepState; 4]) -> [u16; 5]
+    requires open { open_step.now.seats ≤ most_step_seats }
+    requires categories { AllByRecursion (λ step. step.seats ≤ most_step_seats) categories.now }
+    ensures { result ≡ length open_step.now.held ∷ map (λ step. length step.held) categories.now }
+{
+    [
+        held_by(open_step),
+        held_by(&categories[0]),
+        held_by(&categories[1]),
+        held_by(&categories[2]),
+        held_by(&categories[3]),
+    ]
 }
 
 /// Hands the person to a step for those with a common place. Returns who continues to the next step.
@@ -222,6 +217,24 @@ fn hand_member(step: &mut StepState, category: Category, coming: Option<Person>)
         return Some(person);
     }
     step.hand(&person)
+}
+
+/// Offers the person who comes to the steps of these rows in their order: who is left out by one continues to the next.
+/// Returns who continues after the last.
+fn hand_down(
+    rows: &[CategoryStep; 4],
+    categories: &mut [StepState; 4],
+    coming: Option<Person>,
+) -> Option<Person>
+    requires { AreNew rows.now categories.old coming }
+    ensures { AreHanded rows.now categories.old categories.new coming result }
+{
+    let mut coming = coming;
+    for i in 0..rows.len() {
+        let row = &rows[i];
+        coming = hand_member(&mut categories[i], row.category, coming);
+    }
+    coming
 }
 
 /// Keeps the best on the seats, including the person who comes if that person has a common place. Returns who is left
