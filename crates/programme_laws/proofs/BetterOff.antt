@@ -1,20 +1,24 @@
 -- An applicant who is better off stays admitted: by the step that admitted the person, or by an earlier one.
-use Rattle.std.proofs.Common.{◌≡◌, ◌≢◌, ◌⊎◌, inl, inr, ℕ, zero, suc, Bool, true, false, List, [], ◌∷◌, length, take, arith, refl, sym, ap, ◌∙◌, subst, not}
-use Rattle.std.specs.List.{filter}
-use Rattle.office_base.specs.Lists.{IsAmong, IsSublist, Pairwise}
+use Rattle.std.proofs.Common.{◌≡◌, ◌≢◌, ◌⊎◌, inl, inr, ℕ, zero, suc, Bool, true, false, Option, Some, None, List, [], ◌∷◌, length, take, arith, refl, sym, ap, ◌∙◌, subst, not}
+use Rattle.std.specs.List.{AllByRecursion, filter}
+use Rattle.office_base.specs.CategorySteps.{all_steps, own_steps, row_of}
+use Rattle.office_base.specs.Lists.{IsAmong, Pairwise}
 use Rattle.office_base.specs.Merit.{in_merit}
 use Rattle.office_base.specs.Person.{IsAhead, IsBetter, is_common, number_in}
-use Rattle.office_base.specs.StepChoice.{AreRanked, IsStepChoice}
+use Rattle.office_base.specs.StepChoice.{AreRanked}
+use Rattle.office_base.specs.StepNumbers.{step_number}
+use Rattle.office_base.specs.declared.category_steps.CategoryStep.{CategoryStep}
 use Rattle.office_base.specs.declared.person.Category.{Category}
-use Rattle.office_base.specs.declared.person.Category.TheVariants.{Gen, Ews, Obc, Sc, St}
+use Rattle.office_base.specs.declared.person.Category.TheVariants.{Gen}
 use Rattle.office_base.specs.declared.person.ListId.{ListId}
 use Rattle.office_base.specs.declared.person.Person.{Person}
 use Rattle.office_base.specs.declared.step.StepKind.{StepKind}
-use Rattle.office_base.specs.declared.step.StepKind.TheVariants.{Open, Ews as EwsStep, Obc as ObcStep, Sc as ScStep, St as StStep, Dereserved}
-use Rattle.office_base.proofs.Lists.{length_take_most}
-use Rattle.placements.specs.Ranks.{AreAmong, AreDistinct}
+use Rattle.office_base.specs.declared.step.StepKind.TheVariants.{Open, Dereserved}
+use Rattle.office_base.proofs.Lists.{all_among, at_among, length_take_most}
+use Rattle.office_base.proofs.StepNumbers.{kind_at}
+use Rattle.placements.specs.Ranks.{AreAmong}
 use Rattle.placements.specs.Ranks as ranks
-use Rattle.placements.proofs.Filters.{among_filter, among_filter_from, filter-sublist}
+use Rattle.placements.proofs.Filters.{among_filter, among_filter_from}
 use Rattle.placements.proofs.Merit.{ahead_again, not_ahead}
 use Rattle.placements.proofs.Ranks.{among_sublist, any_all, any_at, are_among, one_person, ranked_sublist, widen}
 use Rattle.placements.proofs.Sublists.{IsSublist-take, length-sublist, sublist_again}
@@ -22,13 +26,14 @@ use Rattle.placements.proofs.Without.{among_without, length_without, without_sub
 use Rattle.merit_choice.specs.Laws.{ChoiceExists, LeavingOutRefused}
 use Rattle.merit_choice.proofs.InMerit.{in_merit_ranks, ranked_part}
 use Rattle.merit_choice.proofs.Needed.{decides, nobody_of}
-use Rattle.seat_matrix.specs.Seats.{AreProgrammeSeats, IsSeated, seats_of}
+use Rattle.seat_matrix.specs.Seats.{AreProgrammeSeats, is_dereserved, seats_of}
 use Rattle.seat_matrix.specs.declared.seats.ProgrammeSeats.{ProgrammeSeats}
-use Rattle.seat_matrix.specs.declared.seats.Seating.{Seating}
 use Rattle.programme_lists.specs.Chosen.{IsAdmitted}
-use Rattle.programme_lists.specs.Programme.{Admissions, IsProgrammeChoice, admitted_by, is_of, is_same, is_taken, left_over, people_of, step_with, unfilled, without}
+use Rattle.programme_lists.specs.Programme.{Admissions, IsProgrammeChoice, is_of, is_same, is_taken, left_by, left_over, members_by, people_of, unfilled, without}
 use Rattle.programme_laws.specs.Laws.{AreTheSameBut, BeingBetterOffNeverHurts, IsNoWorseOff}
-use Rattle.programme_laws.proofs.PassedOver.{best_first, taken_or_left}
+use Rattle.programme_lists.proofs.Parts.{by_own, people_part, same_by_own}
+use Rattle.programme_laws.proofs.Competing.{admitted_within}
+use Rattle.programme_laws.proofs.PassedOver.{best_first, left_or_by, taken_or_left}
 use Rattle.programme_laws.proofs.StillChosen.{AreReplaced, IsTheSame, same_choice, still_chosen}
 
 -- ---- those who pass a test
@@ -45,11 +50,19 @@ replaced_left : (taken : List Person) (before after : Person) (people others : L
     → AreReplaced before after (without people taken) (without others taken)
 replaced_left taken before after people others replaced = replaced_filter (λ one. not (is_taken taken one)) before after people others replaced
 
--- and so those whom equal choices leave
-left_without : (before after : Person) (people others taken taken' : List Person) → taken ≡ taken' → AreReplaced before after people others
-    → AreReplaced before after (without people taken) (without others taken')
-left_without before after people others taken taken' same replaced =
-    subst (λ t. AreReplaced before after (without people taken) (without others t)) same (replaced_left taken before after people others replaced)
+-- and so those whom the same steps leave
+left_replaced : (kinds : List StepKind) (admissions : Admissions) (before after : Person) (people others : List Person) → AreReplaced before after people others
+    → AreReplaced before after (left_by kinds people admissions) (left_by kinds others admissions)
+left_replaced [] admissions before after people others replaced = replaced
+left_replaced (kind ∷ kinds) admissions before after people others replaced =
+    left_replaced kinds admissions before after (without people (admissions kind)) (without others (admissions kind)) (replaced_left (admissions kind) before after people others replaced)
+
+-- and the members of a category
+members_replaced : (row : Option CategoryStep) (before after : Person) (people others : List Person) → AreReplaced before after people others
+    → AreReplaced before after (members_by row people) (members_by row others)
+members_replaced None before after people others replaced =
+    record { to = λ p here. absurd here; back = λ p here. absurd here; only = λ p here. absurd here; only_after = λ p here. absurd here }
+members_replaced (Some row) before after people others replaced = replaced_filter (is_of row.category) before after people others replaced
 
 -- ---- the first of some people
 
@@ -109,13 +122,28 @@ module _ (list : ListId) (n : ℕ) (people others : List Person) (ranked : AreRa
 
 -- ---- the steps of a programme
 
+-- some step has the first of two, or each step has the second
+some_or_each : (P Q : StepKind → Type 0) (kinds : List StepKind) → ((kind : StepKind) → P kind ⊎ Q kind) → ((kind : StepKind) × P kind) ⊎ AllByRecursion Q kinds
+some_or_each P Q [] each = inr tt
+some_or_each P Q (kind ∷ kinds) each = elim (each kind) [
+  | inl first ↦ inl (kind, first)
+  | inr second ↦ elim (some_or_each P Q kinds each) [ inl found ↦ inl found | inr rest ↦ inr (second, rest) ]
+]
+
 -- a category that is declared is not GEN
 no_gen : (category : Category) → (category ≡ Gen → ⊥) → is_same category Gen ≡ false
 no_gen Gen apart = absurd (apart refl)
-no_gen Ews apart = refl
-no_gen Obc apart = refl
-no_gen Sc apart = refl
-no_gen St apart = refl
+no_gen _ apart = refl
+
+-- a category with seats of its own is declared
+abbrev IsDeclared : Option CategoryStep → Type 0
+IsDeclared None = Unit {0}
+IsDeclared (Some row) = row.category ≢ Gen
+
+declared : (kind : StepKind) → IsDeclared (row_of kind)
+declared Open = tt
+declared Dereserved = tt
+declared kind = λ e. cc e
 
 module _ (exists : ChoiceExists) (leaving : LeavingOutRefused) (version : ℕ) (seats : ProgrammeSeats) (people others : List Person) (admissions changed : Admissions) (ok : AreProgrammeSeats seats)
     (ranked : AreRanked seats.list people) (ranked' : AreRanked seats.list others) (choice : IsProgrammeChoice version seats people admissions)
@@ -124,145 +152,114 @@ module _ (exists : ChoiceExists) (leaving : LeavingOutRefused) (version : ℕ) (
   same : IsTheSame seats.list before after
   same = record { id = better.id; traits = better.traits; place = better.place }
 
-  -- a step admits the person after, or admits the same persons, and not this one
-  by_step : (seating : Seating) (some some' chosen chosen' : List Person) → IsSeated seating → IsSublist some people → IsSublist some' others → AreReplaced before after some some'
-      → (IsAmong before some → IsAmong after some') → IsStepChoice (step_with seats.list seating some) chosen → IsStepChoice (step_with seats.list seating some') chosen'
-      → IsAmong after chosen' ⊎ ((IsAmong before chosen → ⊥) × (chosen ≡ chosen'))
-  by_step seating some some' chosen chosen' seated part part' there moves one two =
-      elim (decides after chosen' others ranked'.distinct (among_sublist chosen' others (sublist_again _ _ _ two.may.people part')) there') [
+  -- the step admits the person after, or admits the same persons, and not this one
+  abbrev IsSettled : StepKind → Type 0
+  IsSettled kind = IsAmong after (changed kind) ⊎ ((IsAmong before (admissions kind) → ⊥) × (admissions kind ≡ changed kind))
+
+  by_step : (kind : StepKind) → is_dereserved kind ≡ false
+      → AreReplaced before after (people_of seats.list people admissions kind) (people_of seats.list others changed kind)
+      → (IsAmong before (people_of seats.list people admissions kind) → IsAmong after (people_of seats.list others changed kind)) → IsSettled kind
+  by_step kind own there moves =
+      let some = people_of seats.list people admissions kind in
+      let some' = people_of seats.list others changed kind in
+      let one = choice.own kind own in
+      let two = choice'.own kind own in
+      let part' = people_part seats.list others changed kind in
+      elim (decides after (changed kind) others ranked'.distinct (admitted_within version seats others changed kind choice') there') [
         | inl taken ↦ inl taken
         | inr apart ↦
-            let gone : IsAmong after chosen' → ⊥ = λ inside. nobody_of after chosen' apart inside in
-            let some_ranked = ranked_sublist seats.list some people ranked part in
+            let gone : IsAmong after (changed kind) → ⊥ = λ inside. nobody_of after (changed kind) apart inside in
+            let seating = seats_of seats kind in
+            let few = (ok.steps kind).protections in
+            let some_ranked = ranked_sublist seats.list some people ranked (people_part seats.list people admissions kind) in
             let some_ranked' = ranked_sublist seats.list some' others ranked' part' in
-            let out : IsAmong before chosen → ⊥ = λ here.
-            still_chosen seats.list seating.seats seating.protections some some' ok.list seated.protections some_ranked some_ranked' before after there same chosen chosen' one two here
-            (moves (widen before chosen some (among_sublist chosen some one.may.people) here)) gone in
-            inr (out, same_choice seats.list seating.seats seating.protections some some' ok.list seated.protections some_ranked some_ranked' before after there same exists leaving chosen chosen' one two out gone)
+            let out : IsAmong before (admissions kind) → ⊥ = λ here.
+            still_chosen seats.list seating.seats seating.protections some some' ok.list few some_ranked some_ranked' before after there same (admissions kind) (changed kind) one two here
+            (moves (widen before (admissions kind) some (among_sublist (admissions kind) some one.may.people) here)) gone in
+            inr (out, same_choice seats.list seating.seats seating.protections some some' ok.list few some_ranked some_ranked' before after there same exists leaving (admissions kind) (changed kind) one two out gone)
       ]
 
-  by_open : IsAmong after changed.open_step ⊎ ((IsAmong before admissions.open_step → ⊥) × (admissions.open_step ≡ changed.open_step))
-  by_open =
-      by_step (seats_of seats Open) (filter (is_common seats.list) people) (filter (is_common seats.list) others) admissions.open_step changed.open_step (ok.steps Open)
-      (filter-sublist _ people) (filter-sublist _ others) (replaced_filter (is_common seats.list) before after people others replaced)
-      (λ here. among_filter_from (is_common seats.list) after others there' (better.common (among_filter (is_common seats.list) before people here).1)) choice.open_step choice'.open_step
-
-  -- the members of a category whom the open step left
-  of_same : (category : Category) → (category ≡ Gen → ⊥) → is_of category before ≡ true → is_of category after ≡ true
-  of_same category declared is = by_category better.category
+  -- an applicant who stays a member stays one of those whom the open step left
+  of_same : (row : Option CategoryStep) (some some' : List Person) → IsDeclared row → IsAmong before (members_by row some) → IsAmong after some' → IsAmong after (members_by row some')
+  of_same None some some' declared here there = absurd here
+  of_same (Some row) some some' declared here there =
+      among_filter_from (is_of row.category) after some' there (by_category better.category (among_filter (is_of row.category) before some here).1)
     where
-      by_category : (after.category ≡ before.category) ⊎ (before.category ≡ Gen) → is_of category after ≡ true
-      by_category (inl e) = ap (λ c. is_same category c) e ∙ is
-      by_category (inr gen) = absurd (let yes = sym (ap (λ c. is_same category c) gen) ∙ is in let none = no_gen category declared in cc)
+      by_category : (after.category ≡ before.category) ⊎ (before.category ≡ Gen) → is_of row.category before ≡ true → is_of row.category after ≡ true
+      by_category (inl e) is = ap (λ c. is_same row.category c) e ∙ is
+      by_category (inr gen) is = absurd (let yes = sym (ap (λ c. is_same row.category c) gen) ∙ is in let none = no_gen row.category declared in cc)
 
-  by_category : (seating : Seating) (category : Category) (chosen chosen' : List Person) → IsSeated seating → (category ≡ Gen → ⊥) → admissions.open_step ≡ changed.open_step
-      → IsAmong after (without others changed.open_step) → IsStepChoice (step_with seats.list seating (filter (is_of category) (without people admissions.open_step))) chosen
-      → IsStepChoice (step_with seats.list seating (filter (is_of category) (without others changed.open_step))) chosen'
-      → IsAmong after chosen' ⊎ ((IsAmong before chosen → ⊥) × (chosen ≡ chosen'))
-  by_category seating category chosen chosen' seated declared one left first second =
-      by_step seating (filter (is_of category) (without people admissions.open_step)) (filter (is_of category) (without others changed.open_step)) chosen chosen' seated
-      (sublist_again _ _ _ (filter-sublist _ _) (filter-sublist _ people)) (sublist_again _ _ _ (filter-sublist _ _) (filter-sublist _ others))
-      (replaced_filter (is_of category) before after (without people admissions.open_step) (without others changed.open_step)
-      (subst (λ t. AreReplaced before after (without people admissions.open_step) (without others t)) one (replaced_left admissions.open_step before after people others replaced)))
-      (λ here. among_filter_from (is_of category) after (without others changed.open_step) left (of_same category declared (among_filter (is_of category) before _ here).1)) first second
+  -- a step with seats of its own admits the same persons, and not this one
+  abbrev Stays : StepKind → Type 0
+  Stays kind = is_dereserved kind ≡ false → (IsAmong before (admissions kind) → ⊥) × (admissions kind ≡ changed kind)
 
-  -- the persons of a step are some of the applicants
-  open_within : AreAmong changed.open_step others
-  open_within = among_sublist _ _ (sublist_again _ _ _ choice'.open_step.may.people (filter-sublist _ others))
+  -- where the open step is settled, and left the person, each step admits the person after or stays
+  settled : (IsAmong before (admissions Open) → ⊥) → admissions Open ≡ changed Open → IsAmong after (without others (changed Open)) → (kind : StepKind) → IsAmong after (changed kind) ⊎ Stays kind
+  settled out one left Open = inr (λ own. (out, one))
+  settled out one left Dereserved = inr (λ own. absurd (cc own))
+  settled out one left kind =
+      let moved =
+      by_step kind refl
+      (members_replaced (row_of kind) before after (without people (admissions Open)) (without others (changed Open))
+      (subst (λ t. AreReplaced before after (without people (admissions Open)) (without others t)) one (replaced_left (admissions Open) before after people others replaced)))
+      (λ here. of_same (row_of kind) (without people (admissions Open)) (without others (changed Open)) (declared kind) here left) in
+      elim moved [ inl taken ↦ inl taken | inr stays ↦ inr (λ own. stays) ]
 
-  category_within : (category : Category) (chosen : List Person) → IsSublist chosen (filter (is_of category) (without others changed.open_step)) → AreAmong chosen others
-  category_within category chosen part = among_sublist _ _ (sublist_again _ _ _ part (sublist_again _ _ _ (filter-sublist _ _) (filter-sublist _ others)))
+  open_settled : IsSettled Open
+  open_settled =
+      by_step Open refl (replaced_filter (is_common seats.list) before after people others replaced)
+      (λ here. among_filter_from (is_common seats.list) after others there' (better.common (among_filter (is_common seats.list) before people here).1))
 
   -- where no step before the last admits the person after, these admit the same persons as before
   record AreUnchanged : Type 0 where
-    pub open_step : admissions.open_step ≡ changed.open_step
-    pub ews : admissions.ews ≡ changed.ews
-    pub obc : admissions.obc ≡ changed.obc
-    pub sc : admissions.sc ≡ changed.sc
-    pub st : admissions.st ≡ changed.st
-    pub out : (kind : StepKind) → kind ≢ Dereserved → IsAmong before (admitted_by admissions kind) → ⊥
+    pub out : (kind : StepKind) → is_dereserved kind ≡ false → IsAmong before (admissions kind) → ⊥
+    pub kept : (kind : StepKind) → is_dereserved kind ≡ false → admissions kind ≡ changed kind
     pub left : IsAmong after (left_over others changed)
 
-  -- the people left over are the same but for the one
-  left_replaced : AreUnchanged → AreReplaced before after (left_over people admissions) (left_over others changed)
-  left_replaced u =
-      let some = without people admissions.open_step in
-      let some' = without others changed.open_step in
-      let first = left_without before after people others admissions.open_step changed.open_step u.open_step replaced in
-      let second = left_without before after some some' admissions.ews changed.ews u.ews first in
-      let third = left_without before after (without some admissions.ews) (without some' changed.ews) admissions.obc changed.obc u.obc second in
-      let fourth = left_without before after (without (without some admissions.ews) admissions.obc) (without (without some' changed.ews) changed.obc) admissions.sc changed.sc u.sc third in
-      left_without before after (without (without (without some admissions.ews) admissions.obc) admissions.sc) (without (without (without some' changed.ews) changed.obc) changed.sc)
-      admissions.st changed.st u.st fourth
-
-  left_within : (all : List Person) (those : Admissions) → IsSublist (left_over all those) all
-  left_within all those = sublist_again _ _ _ (filter-sublist _ _) (sublist_again _ _ _ (filter-sublist _ _) (sublist_again _ _ _ (filter-sublist _ _)
-      (sublist_again _ _ _ (filter-sublist _ _) (filter-sublist _ all))))
-
-  by_last : AreUnchanged → IsAmong before admissions.dereserved → IsAmong after changed.dereserved
+  by_last : AreUnchanged → IsAmong before (admissions Dereserved) → IsAmong after (changed Dereserved)
   by_last u here =
       let list = seats.list in
       let some = people_of list people admissions Dereserved in
       let some' = people_of list others changed Dereserved in
       let n = unfilled version seats admissions in
-      let count : n ≡ unfilled version seats changed = ap (λ a. unfilled version seats (record admissions { ews = a })) u.ews ∙ ap (λ b. unfilled version seats (record changed { obc = b })) u.obc in
-      let part : IsSublist some people = sublist_again _ _ _ (filter-sublist (is_common list) (left_over people admissions)) (left_within people admissions) in
-      let part' : IsSublist some' others = sublist_again _ _ _ (filter-sublist (is_common list) (left_over others changed)) (left_within others changed) in
+      let own : by_own admissions ≡ by_own changed = same_by_own admissions changed u.kept in
+      let count : n ≡ unfilled version seats changed = ap (λ a. unfilled version seats a) own in
+      let rest : AreReplaced before after (left_over people admissions) (left_over others changed) =
+      subst (λ a. AreReplaced before after (left_over people admissions) (left_over others a)) own (left_replaced own_steps (by_own admissions) before after people others replaced) in
+      let part = people_part list people admissions Dereserved in
+      let part' = people_part list others changed Dereserved in
       let here' : IsAmong before (take n some) = subst (λ l. IsAmong before l) choice.dereserved here in
       let stood = widen before (take n some) some (among_sublist (take n some) some (IsSublist-take n some)) here' in
       let common = better.common (among_filter (is_common list) before (left_over people admissions) stood).1 in
       let stands : IsAmong after some' = among_filter_from (is_common list) after (left_over others changed) u.left common in
       let kept = still_first list n some some' (ranked_sublist list some people ranked part) (ranked_sublist list some' others ranked' part') before after
-      (replaced_filter (is_common list) before after (left_over people admissions) (left_over others changed) (left_replaced u)) same here' stands in
+      (replaced_filter (is_common list) before after (left_over people admissions) (left_over others changed) rest) same here' stands in
       subst (λ l. IsAmong after l) (sym choice'.dereserved) (subst (λ k. IsAmong after (take k some')) count kept)
 
   admitted_or_unchanged : IsAdmitted changed after ⊎ AreUnchanged
-  admitted_or_unchanged = elim by_open [
+  admitted_or_unchanged = elim open_settled [
     | inl taken ↦ inl (Open, taken)
-    | inr o ↦ elim (taken_or_left others others changed.open_step after ranked'.distinct open_within there' there') [
+    | inr o ↦ elim (taken_or_left others others (changed Open) after ranked'.distinct (within Open) there' there') [
       | inl taken ↦ inl (Open, taken)
-      | inr left ↦ elim (by_category (seats_of seats EwsStep) Ews admissions.ews changed.ews (ok.steps EwsStep) (λ e. cc e) o.1 left choice.ews choice'.ews) [
-        | inl taken ↦ inl (EwsStep, taken)
-        | inr ews ↦ elim (by_category (seats_of seats ObcStep) Obc admissions.obc changed.obc (ok.steps ObcStep) (λ e. cc e) o.1 left choice.obc choice'.obc) [
-          | inl taken ↦ inl (ObcStep, taken)
-          | inr obc ↦ elim (by_category (seats_of seats ScStep) Sc admissions.sc changed.sc (ok.steps ScStep) (λ e. cc e) o.1 left choice.sc choice'.sc) [
-            | inl taken ↦ inl (ScStep, taken)
-            | inr sc ↦ elim (by_category (seats_of seats StStep) St admissions.st changed.st (ok.steps StStep) (λ e. cc e) o.1 left choice.st choice'.st) [
-              | inl taken ↦ inl (StStep, taken)
-              | inr st ↦ unchanged o.0 ews.0 obc.0 sc.0 st.0 o.1 ews.1 obc.1 sc.1 st.1 left
-            ]
-          ]
+      | inr left ↦ elim (some_or_each (λ kind. IsAmong after (changed kind)) Stays all_steps (settled o.0 o.1 left)) [
+        | inl found ↦ inl found
+        | inr stay ↦ elim (left_or_by others changed own_steps others after ranked'.distinct within there' there') [
+          | inl taken ↦ inl taken
+          | inr over ↦ inr (record {
+            out = λ kind own. (of_all stay kind own).0;
+            kept = λ kind own. (of_all stay kind own).1;
+            left = over;
+          })
         ]
       ]
     ]
   ]
     where
-      unchanged : (IsAmong before admissions.open_step → ⊥) → (IsAmong before admissions.ews → ⊥) → (IsAmong before admissions.obc → ⊥) → (IsAmong before admissions.sc → ⊥)
-          → (IsAmong before admissions.st → ⊥) → admissions.open_step ≡ changed.open_step → admissions.ews ≡ changed.ews → admissions.obc ≡ changed.obc → admissions.sc ≡ changed.sc
-          → admissions.st ≡ changed.st → IsAmong after (without others changed.open_step) → IsAdmitted changed after ⊎ AreUnchanged
-      unchanged o ews obc sc st eo eews eobc esc est left =
-          elim (taken_or_left others (without others changed.open_step) changed.ews after ranked'.distinct (category_within Ews changed.ews choice'.ews.may.people) there' left) [
-            | inl taken ↦ inl (EwsStep, taken)
-            | inr second ↦ elim (taken_or_left others _ changed.obc after ranked'.distinct (category_within Obc changed.obc choice'.obc.may.people) there' second) [
-              | inl taken ↦ inl (ObcStep, taken)
-              | inr third ↦ elim (taken_or_left others _ changed.sc after ranked'.distinct (category_within Sc changed.sc choice'.sc.may.people) there' third) [
-                | inl taken ↦ inl (ScStep, taken)
-                | inr fourth ↦ elim (taken_or_left others _ changed.st after ranked'.distinct (category_within St changed.st choice'.st.may.people) there' fourth) [
-                  | inl taken ↦ inl (StStep, taken)
-                  | inr fifth ↦ inr (record { open_step = eo; ews = eews; obc = eobc; sc = esc; st = est; out = out_of o ews obc sc st; left = fifth })
-                ]
-              ]
-            ]
-          ]
-        where
-          out_of : (IsAmong before admissions.open_step → ⊥) → (IsAmong before admissions.ews → ⊥) → (IsAmong before admissions.obc → ⊥) → (IsAmong before admissions.sc → ⊥)
-              → (IsAmong before admissions.st → ⊥) → (kind : StepKind) → kind ≢ Dereserved → IsAmong before (admitted_by admissions kind) → ⊥
-          out_of o ews obc sc st Open other here = o here
-          out_of o ews obc sc st EwsStep other here = ews here
-          out_of o ews obc sc st ObcStep other here = obc here
-          out_of o ews obc sc st ScStep other here = sc here
-          out_of o ews obc sc st StStep other here = st here
-          out_of o ews obc sc st Dereserved other here = other refl
+      within : (kind : StepKind) → AreAmong (changed kind) others
+      within kind = admitted_within version seats others changed kind choice'
+
+      of_all : AllByRecursion Stays all_steps → (kind : StepKind) → Stays kind
+      of_all stay kind = all_among Stays all_steps kind stay (at_among all_steps (step_number kind) kind (kind_at kind))
 
   pub still_admitted : IsAdmitted admissions before → IsAdmitted changed after
   still_admitted was = elim admitted_or_unchanged [
@@ -270,13 +267,9 @@ module _ (exists : ChoiceExists) (leaving : LeavingOutRefused) (version : ℕ) (
     | inr u ↦ by_kind u was.0 was.1
   ]
     where
-      by_kind : AreUnchanged → (kind : StepKind) → IsAmong before (admitted_by admissions kind) → IsAdmitted changed after
-      by_kind u Open here = absurd (u.out Open (λ e. cc e) here)
-      by_kind u EwsStep here = absurd (u.out EwsStep (λ e. cc e) here)
-      by_kind u ObcStep here = absurd (u.out ObcStep (λ e. cc e) here)
-      by_kind u ScStep here = absurd (u.out ScStep (λ e. cc e) here)
-      by_kind u StStep here = absurd (u.out StStep (λ e. cc e) here)
+      by_kind : AreUnchanged → (kind : StepKind) → IsAmong before (admissions kind) → IsAdmitted changed after
       by_kind u Dereserved here = (Dereserved, by_last u here)
+      by_kind u kind here = absurd (u.out kind refl here)
 
 -- ---- people in any order
 

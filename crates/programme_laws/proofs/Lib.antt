@@ -1,4 +1,5 @@
 mod BetterOff
+mod Competing
 mod EmptySeats
 mod PassedOver
 mod StillChosen

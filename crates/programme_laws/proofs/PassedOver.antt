@@ -1,31 +1,29 @@
 -- A programme passes nobody over: the step that admits the worse one would choose the better one, unless an earlier step did.
-use Rattle.std.proofs.Common.{◌≡◌, ◌⊎◌, inl, inr, ℕ, zero, suc, Bool, true, List, [], ◌∷◌, take, refl, sym, ap, ◌∙◌, subst, not, ◌==◌}
-use Rattle.std.specs.List.{filter}
+use Rattle.std.proofs.Common.{◌≡◌, ◌⊎◌, inl, inr, ℕ, zero, suc, true, List, [], ◌∷◌, take, refl, sym, ap, subst, not, ◌==◌}
 use Rattle.std.proofs.lemmas.Bool.{cases_Bool, eqb-true, or_cases}
-use Rattle.office_base.specs.Lists.{IsAmong, IsSublist, Pairwise}
+use Rattle.office_base.specs.Lists.{IsAmong, Pairwise}
+use Rattle.office_base.specs.CategorySteps.{own_steps, row_of}
 use Rattle.office_base.specs.Merit.{in_merit}
 use Rattle.office_base.specs.Person.{IsBetter, is_common, number_in}
-use Rattle.office_base.specs.StepChoice.{AreRanked, IsStep, IsStepChoice}
-use Rattle.office_base.specs.declared.person.Category.{Category}
-use Rattle.office_base.specs.declared.person.Category.TheVariants.{Ews, Obc, Sc, St}
+use Rattle.office_base.specs.StepChoice.{AreRanked, IsStep}
 use Rattle.office_base.specs.declared.person.ListId.{ListId}
 use Rattle.office_base.specs.declared.person.Person.{Person}
 use Rattle.office_base.specs.declared.step.StepKind.{StepKind}
-use Rattle.office_base.specs.declared.step.StepKind.TheVariants.{Open, Ews as EwsStep, Obc as ObcStep, Sc as ScStep, St as StStep, Dereserved}
+use Rattle.office_base.specs.declared.step.StepKind.TheVariants.{Open, Dereserved}
 use Rattle.placements.specs.Ranks.{AreAmong, AreDistinct}
-use Rattle.placements.proofs.Filters.{among_filter_from, filter-sublist}
+use Rattle.placements.proofs.Filters.{among_filter_from}
 use Rattle.placements.proofs.Merit.{ahead_again, not_ahead}
-use Rattle.placements.proofs.Ranks.{among_sublist, any_all, one_person, ranked_sublist, widen}
-use Rattle.placements.proofs.Sublists.{sublist_again}
+use Rattle.placements.proofs.Ranks.{any_all, one_person, ranked_sublist, widen}
 use Rattle.placements.proofs.Convert.{same_cand}
 use Rattle.merit_choice.specs.InMerit.{InMeritRanks}
 use Rattle.merit_choice.specs.Laws.{NobodyPassedOver}
 use Rattle.seat_matrix.specs.Seats.{AreProgrammeSeats}
 use Rattle.seat_matrix.specs.declared.seats.ProgrammeSeats.{ProgrammeSeats}
 use Rattle.programme_lists.specs.Chosen.{IsAdmitted}
-use Rattle.programme_lists.specs.Programme.{Admissions, IsProgrammeChoice, admitted_by, is_of, is_same, is_taken, left_over, people_of, step_of, unfilled, without}
-use Rattle.programme_lists.proofs.Categories.{same_itself}
+use Rattle.programme_lists.specs.Programme.{Admissions, IsProgrammeChoice, is_taken, left_by, left_over, people_of, step_of, unfilled, without}
 use Rattle.programme_laws.specs.Laws.{HoldsEachTraitOf, MayStandFor, NobodyIsPassedOver}
+use Rattle.programme_lists.proofs.Parts.{people_part}
+use Rattle.programme_laws.proofs.Competing.{admitted_within, member_by}
 
 -- ---- whom a step left
 
@@ -69,91 +67,59 @@ best_first list (suc n) (x ∷ people) better worse order there here ahead = eli
 
 -- ---- the steps
 
-module _ (passes : NobodyPassedOver) (version : ℕ) (seats : ProgrammeSeats) (applicants : List Person) (admissions : Admissions) (ok : AreProgrammeSeats seats)
+-- an applicant whom some steps do not admit is among those whom they left
+pub left_or_by : (applicants : List Person) (admissions : Admissions) (kinds : List StepKind) (rest : List Person) (person : Person) → AreDistinct applicants
+    → ((kind : StepKind) → AreAmong (admissions kind) applicants) → IsAmong person applicants → IsAmong person rest
+    → IsAdmitted admissions person ⊎ IsAmong person (left_by kinds rest admissions)
+left_or_by applicants admissions [] rest person distinct within there here = inr here
+left_or_by applicants admissions (kind ∷ kinds) rest person distinct within there here =
+    elim (taken_or_left applicants rest (admissions kind) person distinct (within kind) there here) [
+      | inl taken ↦ inl (kind, taken)
+      | inr left ↦ left_or_by applicants admissions kinds (without rest (admissions kind)) person distinct within there left
+    ]
+
+module _ (version : ℕ) (seats : ProgrammeSeats) (applicants : List Person) (admissions : Admissions) (ok : AreProgrammeSeats seats)
     (ranked : AreRanked seats.list applicants) (choice : IsProgrammeChoice version seats applicants admissions) where
-  -- a step whose people are some of the applicants
-  pub is_step : (kind : StepKind) → IsSublist (people_of seats.list applicants admissions kind) applicants → IsStep (step_of seats applicants admissions kind)
-  is_step kind part = record { list = ok.list; people = ranked_sublist seats.list _ applicants ranked part; protections = (ok.steps kind).protections }
+  pub people_ranked : (kind : StepKind) → AreRanked seats.list (people_of seats.list applicants admissions kind)
+  people_ranked kind = ranked_sublist seats.list _ applicants ranked (people_part seats.list applicants admissions kind)
 
-  -- people left, who pass a test
-  pub some_left : (p : Person → Bool) → IsSublist (filter p (without applicants admissions.open_step)) applicants
-  some_left p = sublist_again _ _ _ (filter-sublist p (without applicants admissions.open_step)) (filter-sublist _ applicants)
+  pub is_step : (kind : StepKind) → IsStep (step_of seats applicants admissions kind)
+  is_step kind = record { list = ok.list; people = people_ranked kind; protections = (ok.steps kind).protections }
 
-  by_step : (kind : StepKind) (better worse : Person) → IsSublist (people_of seats.list applicants admissions kind) applicants
-      → IsStepChoice (step_of seats applicants admissions kind) (admitted_by admissions kind) → IsAmong better (people_of seats.list applicants admissions kind)
-      → IsAmong worse (admitted_by admissions kind) → IsBetter seats.list better worse → HoldsEachTraitOf better worse → IsAdmitted admissions better
-  by_step kind better worse part chosen stands here ahead holds =
-      (kind, passes (step_of seats applicants admissions kind) (admitted_by admissions kind) better worse (is_step kind part) chosen stands here ahead holds)
-
-  open_within : AreAmong admissions.open_step applicants
-  open_within = among_sublist _ _ (sublist_again _ _ _ choice.open_step.may.people (filter-sublist (is_common seats.list) applicants))
-
-  -- a member is admitted by the open step, or competes for the seats of the category
-  pub member_stands : (category : Category) (person : Person) → IsAmong person applicants → person.category ≡ category
-      → IsAmong person admissions.open_step ⊎ IsAmong person (filter (is_of category) (without applicants admissions.open_step))
-  member_stands category person there is = elim (taken_or_left applicants applicants admissions.open_step person ranked.distinct open_within there there) [
-    | inl taken ↦ inl taken
-    | inr left ↦ inr (among_filter_from (is_of category) person _ left (ap (λ c. is_same category c) is ∙ same_itself category))
-  ]
-
-  by_category : (kind : StepKind) (category : Category) (better worse : Person) → people_of seats.list applicants admissions kind ≡ filter (is_of category) (without applicants admissions.open_step)
-      → IsStepChoice (step_of seats applicants admissions kind) (admitted_by admissions kind) → IsAmong better applicants → IsAmong worse (admitted_by admissions kind)
-      → IsBetter seats.list better worse → better.category ≡ category → HoldsEachTraitOf better worse → IsAdmitted admissions better
-  by_category kind category better worse people chosen there here ahead is holds = elim (member_stands category better there is) [
-    | inl taken ↦ (Open, taken)
-    | inr stands ↦
-        by_step kind better worse (subst (λ l. IsSublist l applicants) (sym people) (some_left (is_of category))) chosen (subst (λ l. IsAmong better l) (sym people) stands) here ahead holds
-  ]
-
-  category_within : (category : Category) (chosen : List Person) → IsSublist chosen (filter (is_of category) (without applicants admissions.open_step)) → AreAmong chosen applicants
-  category_within category chosen part = among_sublist _ _ (sublist_again _ _ _ part (some_left (is_of category)))
-
-  -- one of the applicants is admitted by one of the first five steps, or is left over
-  pub admitted_or_left : (person : Person) → IsAmong person applicants → IsAdmitted admissions person ⊎ IsAmong person (left_over applicants admissions)
-  admitted_or_left person there =
-      elim (taken_or_left applicants applicants admissions.open_step person ranked.distinct open_within there there) [
+  -- an applicant who may compete for the seats of a step does so, or is admitted by a step before
+  pub competes : (kind : StepKind) (person : Person) → IsAmong person applicants → MayStandFor seats.list kind person
+      → IsAdmitted admissions person ⊎ IsAmong person (people_of seats.list applicants admissions kind)
+  competes Open person there may = inr (among_filter_from (is_common seats.list) person applicants there may)
+  competes Dereserved person there may =
+      elim (left_or_by applicants admissions own_steps applicants person ranked.distinct (λ kind. admitted_within version seats applicants admissions kind choice) there there) [
+        | inl is_yes ↦ inl is_yes
+        | inr left ↦ inr (among_filter_from (is_common seats.list) person (left_over applicants admissions) left may)
+      ]
+  competes kind person there may =
+      elim (taken_or_left applicants applicants (admissions Open) person ranked.distinct (admitted_within version seats applicants admissions Open choice) there there) [
         | inl taken ↦ inl (Open, taken)
-        | inr first ↦ elim (taken_or_left applicants _ admissions.ews person ranked.distinct (category_within Ews _ choice.ews.may.people) there first) [
-          | inl taken ↦ inl (EwsStep, taken)
-          | inr second ↦ elim (taken_or_left applicants _ admissions.obc person ranked.distinct (category_within Obc _ choice.obc.may.people) there second) [
-            | inl taken ↦ inl (ObcStep, taken)
-            | inr third ↦ elim (taken_or_left applicants _ admissions.sc person ranked.distinct (category_within Sc _ choice.sc.may.people) there third) [
-              | inl taken ↦ inl (ScStep, taken)
-              | inr fourth ↦ elim (taken_or_left applicants _ admissions.st person ranked.distinct (category_within St _ choice.st.may.people) there fourth) [
-                | inl taken ↦ inl (StStep, taken)
-                | inr fifth ↦ inr fifth
-              ]
-            ]
-          ]
-        ]
+        | inr left ↦ inr (member_by (row_of kind) person (without applicants (admissions Open)) may left)
       ]
 
-  pub left_within : IsSublist (left_over applicants admissions) applicants
-  left_within = sublist_again _ _ _ (filter-sublist _ _) (sublist_again _ _ _ (filter-sublist _ _) (sublist_again _ _ _ (filter-sublist _ _)
-      (sublist_again _ _ _ (filter-sublist _ _) (filter-sublist _ applicants))))
+module _ (passes : NobodyPassedOver) (version : ℕ) (seats : ProgrammeSeats) (applicants : List Person) (admissions : Admissions) (ok : AreProgrammeSeats seats)
+    (ranked : AreRanked seats.list applicants) (choice : IsProgrammeChoice version seats applicants admissions) where
+  -- a step that admits the worse one admits the better one who competes for its seats too
+  by_step : (kind : StepKind) (better worse : Person) → IsAmong better (people_of seats.list applicants admissions kind) → IsAmong worse (admissions kind) → IsBetter seats.list better worse
+      → HoldsEachTraitOf better worse → IsAmong better (admissions kind)
+  by_step Dereserved better worse stands here ahead holds =
+      let people = people_of seats.list applicants admissions Dereserved in
+      let order = (people_ranked version seats applicants admissions ok ranked choice Dereserved).in_order in
+      let here' = subst (λ l. IsAmong worse l) choice.dereserved here in
+      subst (λ l. IsAmong better l) (sym choice.dereserved) (best_first seats.list (unfilled version seats admissions) people better worse order stands here' ahead)
+  by_step kind better worse stands here ahead holds =
+      passes (step_of seats applicants admissions kind) (admissions kind) better worse (is_step version seats applicants admissions ok ranked choice kind) (choice.own kind refl) stands here ahead holds
 
-  by_last : (better worse : Person) → IsAmong better applicants → IsAmong worse admissions.dereserved → IsBetter seats.list better worse → is_common seats.list better ≡ true
-      → IsAdmitted admissions better
-  by_last better worse there here ahead common = elim (admitted_or_left better there) [
-    | inl is_yes ↦ is_yes
-    | inr left ↦
-        let people = people_of seats.list applicants admissions Dereserved in
-        let part : IsSublist people applicants = sublist_again _ _ _ (filter-sublist (is_common seats.list) (left_over applicants admissions)) left_within in
-        let order = (ranked_sublist seats.list people applicants ranked part).in_order in
-        let stands : IsAmong better people = among_filter_from (is_common seats.list) better (left_over applicants admissions) left common in
-        let here' = subst (λ l. IsAmong worse l) choice.dereserved here in
-        (Dereserved, subst (λ l. IsAmong better l) (sym choice.dereserved) (best_first seats.list (unfilled version seats admissions) people better worse order stands here' ahead))
-  ]
-
-  pub passed_over : (better worse : Person) (step : StepKind) → IsAmong better applicants → IsAmong worse (admitted_by admissions step) → IsBetter seats.list better worse
+  pub passed_over : (better worse : Person) (step : StepKind) → IsAmong better applicants → IsAmong worse (admissions step) → IsBetter seats.list better worse
       → MayStandFor seats.list step better → HoldsEachTraitOf better worse → IsAdmitted admissions better
-  passed_over better worse Open there here ahead may holds =
-      by_step Open better worse (filter-sublist (is_common seats.list) applicants) choice.open_step (among_filter_from (is_common seats.list) better applicants there may) here ahead holds
-  passed_over better worse EwsStep there here ahead may holds = by_category EwsStep Ews better worse refl choice.ews there here ahead may holds
-  passed_over better worse ObcStep there here ahead may holds = by_category ObcStep Obc better worse refl choice.obc there here ahead may holds
-  passed_over better worse ScStep there here ahead may holds = by_category ScStep Sc better worse refl choice.sc there here ahead may holds
-  passed_over better worse StStep there here ahead may holds = by_category StStep St better worse refl choice.st there here ahead may holds
-  passed_over better worse Dereserved there here ahead may holds = by_last better worse there here ahead may
+  passed_over better worse step there here ahead may holds = elim (competes version seats applicants admissions ok ranked choice step better there may) [
+    | inl is_yes ↦ is_yes
+    | inr stands ↦ (step, by_step step better worse stands here ahead holds)
+  ]
 
 pub nobody_is_passed_over : InMeritRanks → NobodyPassedOver → NobodyIsPassedOver
 nobody_is_passed_over ranks passes version seats people admissions better worse step ok may choice there here ahead stands holds =

@@ -1,27 +1,31 @@
 -- What the choice of a programme is worth to those who apply, over its definition alone.
-use Rattle.std.specs.Prelude.{◌≡◌, ◌≢◌, ◌<◌, ◌⊎◌, ◌↔◌, ℕ, List, IsTrue, length, true}
+use Rattle.std.specs.Prelude.{◌≡◌, ◌≢◌, ◌<◌, ◌⊎◌, ◌↔◌, ℕ, List, Option, Some, None, IsTrue, length, true}
 use Rattle.office_base.specs.Lists.{IsAmong}
 use Rattle.office_base.specs.Person.{IsBetter, has_trait, is_common, number_in}
-use Rattle.office_base.specs.declared.person.Category.TheVariants.{Gen, Ews, Obc, Sc, St}
+use Rattle.office_base.specs.CategorySteps.{row_of}
+use Rattle.office_base.specs.declared.category_steps.CategoryStep.{CategoryStep}
+use Rattle.office_base.specs.declared.person.Category.TheVariants.{Gen}
 use Rattle.office_base.specs.declared.person.ListId.{ListId}
 use Rattle.office_base.specs.declared.person.Person.{Person}
 use Rattle.office_base.specs.declared.step.StepKind.{StepKind}
-use Rattle.office_base.specs.declared.step.StepKind.TheVariants.{Open, Ews as EwsStep, Obc as ObcStep, Sc as ScStep, St as StStep, Dereserved}
+use Rattle.office_base.specs.declared.step.StepKind.TheVariants.{Open, Dereserved}
 use Rattle.programme_lists.specs.Chosen.{AreApplicants, ChoosesFrom, IsAdmitted}
 use Rattle.programme_lists.specs.Listing.{seats_filled}
 use Rattle.programme_lists.specs.Programme.{Admissions, admitted_by}
 use Rattle.seat_matrix.specs.Seats.{AreProgrammeSeats}
 use Rattle.seat_matrix.specs.declared.seats.ProgrammeSeats.{ProgrammeSeats}
 
+-- the person is a member of the category of the row; a step that is of no category has no members
+abbrev pub IsMember : Option CategoryStep → Person → Type 0
+IsMember None person = ⊥
+IsMember (Some row) person = person.category ≡ row.category
+
 -- The person may compete for a step: for open and de-reserved seats with a common place in the list, for the seats of
 -- a category as one of its members.
 abbrev pub MayStandFor : ListId → StepKind → Person → Type 0
 MayStandFor list Open person = is_common list person ≡ true
-MayStandFor list EwsStep person = person.category ≡ Ews
-MayStandFor list ObcStep person = person.category ≡ Obc
-MayStandFor list ScStep person = person.category ≡ Sc
-MayStandFor list StStep person = person.category ≡ St
 MayStandFor list Dereserved person = is_common list person ≡ true
+MayStandFor list kind person = IsMember (row_of kind) person
 
 -- the person holds each trait that the other one holds
 abbrev pub HoldsEachTraitOf : Person → Person → Type 0

@@ -15,7 +15,6 @@ pub fn empty_seats_refuse_nobody()
     ensures { EmptySeatsRefuseNobody }
 {
     merit_choice::laws::in_merit_ranks();
-    merit_choice::laws::nobody_passed_over();
     merit_choice::laws::choice_size();
 }
 
