@@ -1,10 +1,12 @@
 mod AheadBy
 mod Among
 mod Equal
+mod Left
 mod Needing
 mod OneFault
 mod Parts
 mod Reckoning
+mod Rows
 mod SingleExchanges
 mod SoundLists
 mod Standing

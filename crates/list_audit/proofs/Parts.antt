@@ -1,24 +1,27 @@
 -- A step of a programme from its parts, and the six steps.
-use Rattle.std.proofs.Common.{◌≡◌, ◌≤◌, ◌<◌, ◌+◌, ℕ, Option, Some, None, List, refl, sym, ap, ◌∙◌, subst, inl, inr, arith}
+use Rattle.std.proofs.Common.{◌≡◌, ◌≢◌, ◌≤◌, ◌<◌, ◌+◌, ℕ, suc, false, Option, Some, None, List, get_or, refl, sym, ap, ◌∙◌, subst, inl, inr, arith}
 use Rattle.std.proofs.lemmas.Bool.{cases_lt}
-use Rattle.std.specs.Prelude.{length, min}
+use Rattle.std.specs.Prelude.{length, min, slice_get}
 use Rattle.std.specs.List.{AllByRecursion, filter}
+use Rattle.office_base.specs.CategorySteps.{category_steps}
 use Rattle.office_base.specs.Lists.{IsAmong, IsSublist, Pairwise}
 use Rattle.office_base.specs.Merit.{in_merit}
 use Rattle.office_base.specs.Person.{IsBetter}
 use Rattle.office_base.specs.StepChoice.{AreRanked}
 use Rattle.office_base.specs.StepNumbers.{step_number}
 use Rattle.office_base.specs.declared.person.CandId.{CandId}
-use Rattle.office_base.specs.declared.person.Category.TheVariants.{Ews as EwsMember, Obc as ObcMember, Sc as ScMember, St as StMember}
+use Rattle.office_base.specs.declared.category_steps.CategoryStep.{CategoryStep}
 use Rattle.office_base.specs.declared.person.ListId.{ListId}
 use Rattle.office_base.specs.declared.person.Person.{Person}
 use Rattle.office_base.specs.declared.step.Protections.{Protections}
 use Rattle.office_base.specs.declared.step.StepKind.{StepKind}
-use Rattle.office_base.specs.declared.step.StepKind.TheVariants.{Open, Ews, Obc, Sc, St, Dereserved}
-use Rattle.office_base.proofs.StepNumbers.{one_number}
+use Rattle.office_base.specs.declared.step.StepKind.TheVariants.{Open, Dereserved}
+use Rattle.office_base.proofs.Lists.{at_among}
+use Rattle.office_base.proofs.StepNumbers.{below_six, one_number}
 use Rattle.placements.proofs.Filters.{filter-sublist}
 use Rattle.placements.proofs.Ranks.{ranked_sublist}
 use Rattle.placements.proofs.Sublists.{sublist_again}
+use Rattle.seat_matrix.specs.Seats.{is_dereserved}
 use Rattle.seat_matrix.specs.declared.seats.ProgrammeSeats.{ProgrammeSeats}
 use Rattle.programme_lists.specs.Programme.{Admissions, is_of, people_of, without}
 use Rattle.programme_lists.specs.declared.programme.Programme.{Programme}
@@ -27,22 +30,21 @@ use Rattle.merit_choice.specs.InMerit.{RankedInMerit, RankedPart}
 use Rattle.list_audit.specs.Clauses.{Audited, AreCandidates, AreRightNumbers, BreaksFirst, IsListFault, IsRightSize, IsSound, audited, list_at, list_of_step, named_at, named_by, people_at, protections_at}
 use Rattle.list_audit.specs.Outside.{IsOutside}
 use Rattle.list_audit.specs.Stand.{left_to, stands_for}
-use Rattle.list_audit.specs.Steps.{BreaksChoice, IsCategoryFault, IsChoiceFault, IsOfCategory, IsStepFault}
+use Rattle.list_audit.specs.Steps.{BreaksChoice, IsCategoryFault, IsChoiceFault, IsStepFault}
 use Rattle.list_audit.specs.declared.clause.Clause.{Clause}
 use Rattle.list_audit.specs.declared.clause.Clause.TheVariants.{BadCertificate, Overtaken}
+use Rattle.programme_lists.proofs.Table.{IsRow, row_facts, view}
 use Rattle.programme_lists.proofs.Walk.{ranked_without}
-use Rattle.list_audit.proofs.SoundLists.{people_part, ranked_among}
+use Rattle.list_audit.proofs.Rows.{row_at, row_below, row_number}
+use Rattle.programme_lists.proofs.Parts.{people_part}
+use Rattle.list_audit.proofs.SoundLists.{ranked_among}
 
 -- ---- the people of a step
 
 -- the people of a step are those who compete for its seats, of those who are left to it
 pub people_stand : (list : ListId) (applicants : List Person) (named : Admissions) (kind : StepKind) → people_of list applicants named kind ≡ filter (stands_for list kind) (left_to applicants named kind)
 people_stand list applicants named Open = refl
-people_stand list applicants named Ews = refl
-people_stand list applicants named Obc = refl
-people_stand list applicants named Sc = refl
-people_stand list applicants named St = refl
-people_stand list applicants named Dereserved = refl
+people_stand list applicants named _ = refl
 
 pub standing_ranked : (list : ListId) (kind : StepKind) (people some : List Person) → AreRanked list people → some ≡ filter (stands_for list kind) people → AreRanked list some
 standing_ranked list kind people some ranked e = subst (AreRanked list) (sym e) (ranked_sublist list (filter (stands_for list kind) people) people ranked (filter-sublist (stands_for list kind) people))
@@ -97,51 +99,92 @@ among_step step people named shown protections fault e s n p right outside size 
 
 -- ---- the six steps
 
+-- to a category those are left whom the open step left
+pub left_category : (applicants : List Person) (named : Admissions) (items : List CategoryStep) (index : ℕ) (d : CategoryStep) → items ≡ category_steps → index < length items
+    → left_to applicants named (get_or items index d).step ≡ without applicants (named Open)
+left_category applicants named items index d same less =
+    let row = get_or items index d in
+    let facts = row_facts row (at_among category_steps index row (row_at items index d same less)) in
+    by_kind row.step facts.not_open facts.own
+  where
+    by_kind : (kind : StepKind) → kind ≢ Open → is_dereserved kind ≡ false → left_to applicants named kind ≡ without applicants (named Open)
+    by_kind Open apart own = absurd (apart refl)
+    by_kind Dereserved apart own = absurd (cc own)
+    by_kind _ apart own = refl
+
 module _ (version : ℕ) (seats : ProgrammeSeats) (people : List Person) (programme : Programme) where
   abbrev Sound : StepKind → Type 0
   Sound kind = IsSound (audited version seats people programme kind)
 
+  -- a step is sound if it is, where it is the open one, that of a row or the last
+  by_view : (kind : StepKind) → (kind ≡ Open → Sound Open) → ((row : CategoryStep) → IsRow row → kind ≡ row.step → Sound row.step) → (kind ≡ Dereserved → Sound Dereserved) → Sound kind
+  by_view kind first each last = elim (view kind) [
+    | inl start ↦ subst Sound (sym start) (first start)
+    | inr other ↦ elim other [
+      | inl found ↦ subst Sound (sym found.2) (each found.0 found.1 found.2)
+      | inr end ↦ subst Sound (sym end) (last end)
+    ]
+  ]
+
   pub before_last : Sound Open → IsCategoryFault version seats people programme None → (other : StepKind) → step_number other < 5 → Sound other
-  before_last first each Open less = first
-  before_last first each Ews less = each Ews (record { after = omega arith; before = omega arith })
-  before_last first each Obc less = each Obc (record { after = omega arith; before = omega arith })
-  before_last first each Sc less = each Sc (record { after = omega arith; before = omega arith })
-  before_last first each St less = each St (record { after = omega arith; before = omega arith })
-  before_last first each Dereserved less = absurd (omega (arith, less))
+  before_last first each other less =
+      by_view other (λ _. first) (λ row here _. each row here) (λ last. absurd (let same = ap step_number last in omega (arith, same, less)))
+
+  -- the first fault of a category is the first of all
+  pub category_first : (fault : Clause × Option CandId) → Sound Open → IsCategoryFault version seats people programme (Some fault) → IsListFault version seats people programme (Some fault)
+  category_first fault first found = record {
+    kind = found.0.step;
+    before = λ other less. by_view other (λ _. first) (λ row here same. found.2 row here (subst (λ kind. step_number kind < step_number found.0.step) same less))
+        (λ last. absurd (let same = ap step_number last in let most = below_six found.0.step in omega (arith, same, less, most)));
+    here = found.3;
+  }
 
   pub whole : (fault : Option (Clause × Option CandId)) → Sound Open → IsCategoryFault version seats people programme None
       → IsStepFault (audited version seats people programme Dereserved) fault → IsListFault version seats people programme fault
-  whole None first each last = all
-    where
-      all : (kind : StepKind) → Sound kind
-      all Open = first
-      all Ews = each Ews (record { after = omega arith; before = omega arith })
-      all Obc = each Obc (record { after = omega arith; before = omega arith })
-      all Sc = each Sc (record { after = omega arith; before = omega arith })
-      all St = each St (record { after = omega arith; before = omega arith })
-      all Dereserved = last
+  whole None first each last = λ kind. by_view kind (λ _. first) (λ row here _. each row here) (λ _. last)
   whole (Some fault) first each last = record { kind = Dereserved; before = before_last first each; here = last }
 
   -- ---- the categories, one after another
 
-  pub category_next : (number : ℕ) (kind : StepKind) → step_number kind ≡ number → ((other : StepKind) → IsOfCategory other → step_number other < number → Sound other) → Sound kind
-      → (other : StepKind) → IsOfCategory other → step_number other < number + 1 → Sound other
-  category_next number kind is before here other of less = elim (cases_lt (step_number other) number) [
-    | inl earlier ↦ before other of earlier
-    | inr far ↦ subst Sound (one_number kind other (let same : step_number kind ≡ step_number other = omega (arith, is, far, less) in same)) here
-  ]
+  -- the steps of the rows before this place are sound
+  abbrev pub AreSoundBefore : ℕ → Type 0
+  AreSoundBefore index = (other : CategoryStep) → IsRow other → step_number other.step < index + 1 → Sound other.step
 
-pub is_category : (kind : StepKind) (number : ℕ) → step_number kind ≡ number → 1 ≤ number → number ≤ 4 → IsOfCategory kind
-is_category kind number is low high = record { after = omega (arith, is, low); before = omega (arith, is, high) }
+  module _ (items : List CategoryStep) (index : ℕ) (same : items ≡ category_steps) (before : AreSoundBefore index) where
+    -- what the step of the row at this place comes to, of those whom the open step left
+    module _ (d : CategoryStep) (less : index < length items) (rest : List Person) (fault : Option (Clause × Option CandId))
+        (told : rest ≡ left_to (in_merit seats.list people) (named_by programme) (get_or items index d).step
+        → IsStepFault (audited version seats people programme (get_or items index d).step) fault)
+        (left : rest ≡ without (in_merit seats.list people) (named_by programme Open)) where
+      abbrev row : CategoryStep
+      row = get_or items index d
 
--- to a category those are left whom the open step left
-pub left_category : (applicants : List Person) (named : Admissions) (kind : StepKind) → IsOfCategory kind → left_to applicants named kind ≡ without applicants named.open_step
-left_category applicants named Open of = absurd (let low = of.after in omega (arith, low))
-left_category applicants named Ews of = refl
-left_category applicants named Obc of = refl
-left_category applicants named Sc of = refl
-left_category applicants named St of = refl
-left_category applicants named Dereserved of = absurd (let high = of.before in omega (arith, high))
+      at : slice_get category_steps index ≡ Some row
+      at = row_at items index d same less
+
+      is : step_number row.step ≡ suc index
+      is = row_number index row at
+
+      here : IsStepFault (audited version seats people programme row.step) fault
+      here = told (left ∙ sym (left_category (in_merit seats.list people) (named_by programme) items index d same less))
+
+      pub category_next : fault ≡ None → AreSoundBefore (index + 1)
+      category_next none other of lower = elim (cases_lt (step_number other.step) (index + 1)) [
+        | inl earlier ↦ before other of earlier
+        | inr far ↦ subst Sound (one_number row.step other.step (let one : step_number row.step ≡ step_number other.step = omega (arith, is, far, lower) in one))
+            (subst (IsStepFault (audited version seats people programme row.step)) none here)
+      ]
+
+      pub category_found : (found : Clause × Option CandId) → fault ≡ Some found → IsCategoryFault version seats people programme (Some found)
+      category_found found some = (
+        row,
+        at_among category_steps index row at,
+        (λ other of lower. before other of (let number = is in omega (arith, number, lower))),
+        subst (IsStepFault (audited version seats people programme row.step)) some here,
+      )
+
+    pub category_end : length items ≤ index → IsCategoryFault version seats people programme None
+    category_end done row here = before row here (let last = row_below row here in let size = ap (λ (rows : List CategoryStep). length rows) same in omega (arith, done, size, last))
 
 -- ---- whom the steps name, of people in merit order
 
@@ -166,22 +209,11 @@ module _ (part : RankedPart) (order : RankedInMerit) (version : ℕ) (seats : Pr
     pub rest_ranked : AreRanked seats.list rest
     rest_ranked = subst (AreRanked seats.list) (sym left) (ranked_without seats.list people (list_of_step programme Open).admitted ranked)
 
-    pub rest_told : (applicants : List Person) → people ≡ in_merit seats.list applicants → rest ≡ without (in_merit seats.list applicants) named.open_step
-    rest_told applicants e = left ∙ ap (λ (those : List Person). without those named.open_step) e
+    pub rest_told : (applicants : List Person) → people ≡ in_merit seats.list applicants → rest ≡ without (in_merit seats.list applicants) (named Open)
+    rest_told applicants e = left ∙ ap (λ (those : List Person). without those (named Open)) e
 
-    module _ (each : (kind : StepKind) → IsOfCategory kind → IsSound (audited version seats people programme kind)) where
-      pub ews_part : IsSublist (list_of_step programme Ews).admitted (filter (is_of EwsMember) rest)
-      ews_part = subst (λ (those : List Person). IsSublist (list_of_step programme Ews).admitted (filter (is_of EwsMember) those)) (sym left)
-          (part_of Ews (each Ews (record { after = omega arith; before = omega arith })))
-
-      pub obc_part : IsSublist (list_of_step programme Obc).admitted (filter (is_of ObcMember) rest)
-      obc_part = subst (λ (those : List Person). IsSublist (list_of_step programme Obc).admitted (filter (is_of ObcMember) those)) (sym left)
-          (part_of Obc (each Obc (record { after = omega arith; before = omega arith })))
-
-      pub sc_part : IsSublist (list_of_step programme Sc).admitted (filter (is_of ScMember) rest)
-      sc_part = subst (λ (those : List Person). IsSublist (list_of_step programme Sc).admitted (filter (is_of ScMember) those)) (sym left)
-          (part_of Sc (each Sc (record { after = omega arith; before = omega arith })))
-
-      pub st_part : IsSublist (list_of_step programme St).admitted (filter (is_of StMember) rest)
-      st_part = subst (λ (those : List Person). IsSublist (list_of_step programme St).admitted (filter (is_of StMember) those)) (sym left)
-          (part_of St (each St (record { after = omega arith; before = omega arith })))
+    -- those whom the step of a row names are members among the rest
+    pub row_part : IsCategoryFault version seats people programme None → (row : CategoryStep) → IsRow row → IsSublist (named row.step) (filter (is_of row.category) rest)
+    row_part each row here =
+        subst (λ (those : List Person). IsSublist (named row.step) (filter (is_of row.category) those)) (sym left)
+        (subst (IsSublist (named row.step)) ((row_facts row here).people seats.list people named) (part_of row.step (each row here)))

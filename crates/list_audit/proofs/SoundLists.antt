@@ -1,7 +1,8 @@
 -- Lists of a programme that break no clause name its choice.
-use Rattle.std.proofs.Common.{◌≡◌, ◌≢◌, ◌≤◌, ◌+◌, ◌-◌, ℕ, zero, suc, Bool, true, false, List, [], ◌∷◌, length, take, refl, sym, ap, ◌∙◌, subst, inl, inr, arith, ◌==◌, if◌then◌else◌}
+use Rattle.std.proofs.Common.{◌≡◌, ◌≢◌, ◌≤◌, ◌+◌, ◌-◌, ℕ, zero, suc, Bool, true, false, Option, Some, None, List, [], ◌∷◌, length, take, refl, sym, ap, ◌∙◌, subst, inl, inr, arith, if◌then◌else◌}
 use Rattle.std.specs.Prelude.{min}
 use Rattle.std.specs.List.{AllByRecursion}
+use Rattle.office_base.specs.CategorySteps.{category_steps, gives_up, own_steps, row_of}
 use Rattle.office_base.specs.Lists.{IsAmong, IsSublist, Pairwise}
 use Rattle.office_base.specs.Merit.{in_merit}
 use Rattle.office_base.specs.Person.{IsBetter, is_common, number_in}
@@ -9,49 +10,30 @@ use Rattle.office_base.specs.Placement.{IsHonoured, IsPlacement}
 use Rattle.office_base.specs.StepChoice.{AreRanked, IsStep, IsStepChoice}
 use Rattle.office_base.specs.declared.person.ListId.{ListId}
 use Rattle.office_base.specs.declared.person.Person.{Person}
-use Rattle.office_base.specs.declared.person.Category.TheVariants.{Ews as EwsMember, Obc as ObcMember, Sc as ScMember, St as StMember}
+use Rattle.office_base.specs.declared.category_steps.CategoryStep.{CategoryStep}
 use Rattle.office_base.specs.declared.step.Pair.{Pair}
 use Rattle.office_base.specs.declared.step.Protections.{Protections}
 use Rattle.office_base.specs.declared.step.Step.{Step}
 use Rattle.office_base.specs.declared.step.StepKind.{StepKind}
-use Rattle.office_base.specs.declared.step.StepKind.TheVariants.{Open, Ews, Obc, Sc, St, Dereserved}
+use Rattle.office_base.specs.declared.step.StepKind.TheVariants.{Open, Dereserved}
 use Rattle.placements.specs.Ranks.{AreAmong, AreDistinct}
 use Rattle.placements.proofs.Filters.{filter-sublist}
 use Rattle.placements.proofs.Merit.{not_ahead}
 use Rattle.placements.proofs.Ranks.{all_among, among_sublist, any_all, one_person, ranked_sublist, widen, widened}
-use Rattle.placements.proofs.Sublists.{sublist_again}
-use Rattle.seat_matrix.specs.Seats.{AreProgrammeSeats, seats_of}
+use Rattle.placements.proofs.Sublists.{IsSublist-nil, IsSublist-same, sublist_again}
+use Rattle.seat_matrix.specs.Seats.{AreProgrammeSeats, is_dereserved, seats_of}
 use Rattle.seat_matrix.specs.declared.seats.ProgrammeSeats.{ProgrammeSeats}
 use Rattle.programme_lists.specs.Chosen.{AreApplicants}
-use Rattle.programme_lists.specs.Programme.{Admissions, is_of, left_over, people_of, step_of, unfilled, without}
+use Rattle.programme_lists.specs.Programme.{Admissions, is_of, left_by, left_over, members_by, people_of, step_of, unfilled, without}
 use Rattle.programme_lists.specs.declared.programme.Programme.{Programme}
 use Rattle.merit_choice.specs.InMerit.{InMeritRanks, RankedPart}
 use Rattle.seat_matrix.proofs.Unprotected.{none_honoured}
-use Rattle.list_audit.specs.Clauses.{IsSound, audited, list_of_step, named_by}
+use Rattle.list_audit.specs.Clauses.{IsSound, audited, list_of_step, named_by, seats_held, seats_shared}
 use Rattle.list_audit.specs.Laws.{SingleExchanges, SoundListsAreTheChoice}
+use Rattle.list_audit.proofs.Rows.{given_by, given_first}
+use Rattle.programme_lists.proofs.Parts.{people_part}
 
 -- ---- the people of a step
-
--- those who are left are a part
-left_part : (people taken : List Person) → IsSublist (without people taken) people
-left_part people taken = filter-sublist _ people
-
-over_part : (applicants : List Person) (named : Admissions) → IsSublist (left_over applicants named) applicants
-over_part applicants named =
-    let a = left_part applicants named.open_step in
-    let b = sublist_again _ _ applicants (left_part (without applicants named.open_step) named.ews) a in
-    let c = sublist_again _ _ applicants (left_part (without (without applicants named.open_step) named.ews) named.obc) b in
-    let d = sublist_again _ _ applicants (left_part (without (without (without applicants named.open_step) named.ews) named.obc) named.sc) c in
-    sublist_again _ _ applicants (left_part (without (without (without (without applicants named.open_step) named.ews) named.obc) named.sc) named.st) d
-
--- the people of a step are some of the applicants, in their order
-pub people_part : (list : ListId) (applicants : List Person) (named : Admissions) (kind : StepKind) → IsSublist (people_of list applicants named kind) applicants
-people_part list applicants named Open = filter-sublist (is_common list) applicants
-people_part list applicants named Ews = sublist_again _ _ applicants (filter-sublist (is_of EwsMember) (without applicants named.open_step)) (left_part applicants named.open_step)
-people_part list applicants named Obc = sublist_again _ _ applicants (filter-sublist (is_of ObcMember) (without applicants named.open_step)) (left_part applicants named.open_step)
-people_part list applicants named Sc = sublist_again _ _ applicants (filter-sublist (is_of ScMember) (without applicants named.open_step)) (left_part applicants named.open_step)
-people_part list applicants named St = sublist_again _ _ applicants (filter-sublist (is_of StMember) (without applicants named.open_step)) (left_part applicants named.open_step)
-people_part list applicants named Dereserved = sublist_again _ _ applicants (filter-sublist (is_common list) (left_over applicants named)) (over_part applicants named)
 
 -- ---- a person who is named
 
@@ -127,10 +109,34 @@ best_named list (one ∷ people) named (suc n) ranked sub count none = elim sub 
 
 -- ---- the seats of the last step
 
-shared_by : (b : Bool) (n obc ews obc_seats ews_seats : ℕ) → n + (obc + (if b then ews else 0)) ≡ obc_seats + (if b then ews_seats else 0) → obc ≤ obc_seats → ews ≤ ews_seats
-    → n ≡ (obc_seats - obc) + (if b then ews_seats - ews else 0)
-shared_by true n obc ews obc_seats ews_seats e few_obc few_ews = omega (arith, e, few_obc, few_ews)
-shared_by false n obc ews obc_seats ews_seats e few_obc few_ews = omega (arith, e, few_obc, few_ews)
+-- the persons named and the seats left unfilled make up the seats, row by row
+each_shared : (version : ℕ) (seats held : StepKind → ℕ) (rows : List CategoryStep) → ((kind : StepKind) → held kind ≤ seats kind)
+    → given_by version held rows + given_by version (λ kind. seats kind - held kind) rows ≡ given_by version seats rows
+each_shared version seats held [] few = refl
+each_shared version seats held (row ∷ rows) few =
+    let a = given_first version held row rows in
+    let b = given_first version (λ kind. seats kind - held kind) row rows in
+    let c = given_first version seats row rows in
+    let one = by_row (gives_up row version) (held row.step) (seats row.step) (few row.step) in
+    let rest = each_shared version seats held rows few in
+    omega (arith, a, b, c, one, rest)
+  where
+    by_row : (b : Bool) (n all : ℕ) → n ≤ all → (if b then n else 0) + (if b then all - n else 0) ≡ (if b then all else 0)
+    by_row true n all within = omega (arith, within)
+    by_row false n all within = refl
+
+-- whom the steps with seats of their own name
+abbrev by_own : Admissions → Admissions
+by_own named Dereserved = []
+by_own named kind = named kind
+
+-- so the last step has the seats that are left unfilled
+shared_by : (version : ℕ) (seats : ProgrammeSeats) (named : Admissions) (n : ℕ) → ((kind : StepKind) → length (by_own named kind) ≤ (seats_of seats kind).seats)
+    → n + seats_held version named ≡ seats_shared version seats → n ≡ unfilled version seats named
+shared_by version seats named n few told =
+    let all = each_shared version (λ kind. (seats_of seats kind).seats) (λ kind. length (by_own named kind)) category_steps few in
+    let same : n + seats_held version named ≡ seats_held version named + unfilled version seats named = told ∙ sym all in
+    omega (arith, same)
 
 module _ (single_exchanges : SingleExchanges) (ranked_part : RankedPart) (in_merit_ranks : InMeritRanks) where
   -- a step with seats of its own, in which no clause is broken, admits those whom its list names
@@ -174,21 +180,18 @@ module _ (single_exchanges : SingleExchanges) (ranked_part : RankedPart) (in_mer
       ))
 
   pub sound_lists : SoundListsAreTheChoice
-  sound_lists version seats people programme ok may sound =
-      let obc = sound Obc in
-      let ews = sound Ews in
-      let few_obc : length (list_of_step programme Obc).admitted ≤ (seats_of seats Obc).seats = (let a = obc.size in let b = obc.numbers.seats in omega (arith, a, b)) in
-      let few_ews : length (list_of_step programme Ews).admitted ≤ (seats_of seats Ews).seats = (let a = ews.size in let b = ews.numbers.seats in omega (arith, a, b)) in
-      let left : (list_of_step programme Dereserved).seats ≡ unfilled version seats (named_by programme) =
-      shared_by (version == 2) (list_of_step programme Dereserved).seats (length (list_of_step programme Obc).admitted) (length (list_of_step programme Ews).admitted) (seats_of seats Obc).seats (seats_of seats Ews).seats
-      (sound Dereserved).numbers.seats few_obc few_ews in
-      record {
-        open_step = sound_step version seats people programme Open ok may (sound Open) (sound Open).numbers.seats;
-        ews = sound_step version seats people programme Ews ok may ews ews.numbers.seats;
-        obc = sound_step version seats people programme Obc ok may obc obc.numbers.seats;
-        sc = sound_step version seats people programme Sc ok may (sound Sc) (sound Sc).numbers.seats;
-        st = sound_step version seats people programme St ok may (sound St) (sound St).numbers.seats;
-        dereserved =
-            sound_last version seats people programme may (sound Dereserved)
-            ∙ ap (λ (n : ℕ). take n (people_of seats.list (in_merit seats.list people) (named_by programme) Dereserved)) left;
-      }
+  sound_lists version seats people programme ok may sound = record {
+    own = λ kind own. sound_step version seats people programme kind ok may (sound kind) (has_own kind own);
+    dereserved =
+        sound_last version seats people programme may (sound Dereserved)
+        ∙ ap (λ (n : ℕ). take n (people_of seats.list (in_merit seats.list people) (named_by programme) Dereserved))
+        (shared_by version seats (named_by programme) (list_of_step programme Dereserved).seats within (sound Dereserved).numbers.seats);
+  }
+    where
+      has_own : (kind : StepKind) → is_dereserved kind ≡ false → (list_of_step programme kind).seats ≡ (seats_of seats kind).seats
+      has_own Dereserved own = absurd (cc own)
+      has_own kind own = (sound kind).numbers.seats
+
+      within : (kind : StepKind) → length (by_own (named_by programme) kind) ≤ (seats_of seats kind).seats
+      within Dereserved = omega arith
+      within kind = let size = (sound kind).size in let told = (sound kind).numbers.seats in omega (arith, size, told)

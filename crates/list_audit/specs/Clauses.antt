@@ -1,6 +1,7 @@
 -- What a programme's lists are audited against, and which clause they break first.
-use Rattle.std.specs.Prelude.{◌≡◌, ◌<◌, ◌⊎◌, ◌+◌, ◌++◌, ◌==◌, ℕ, List, [], ◌∷◌, Option, Some, None, min, length, slice_index_or, if◌then◌else◌}
+use Rattle.std.specs.Prelude.{◌≡◌, ◌<◌, ◌⊎◌, ◌+◌, ◌++◌, ℕ, List, [], ◌∷◌, Option, Some, None, min, length, map, sum, slice_index_or, if◌then◌else◌}
 use Rattle.std.specs.List.{AllByRecursion}
+use Rattle.office_base.specs.CategorySteps.{category_steps, gives_up}
 use Rattle.office_base.specs.Lists.{IsAmong, Pairwise}
 use Rattle.office_base.specs.Merit.{in_merit}
 use Rattle.office_base.specs.Person.{IsBetter}
@@ -11,7 +12,7 @@ use Rattle.office_base.specs.declared.person.ListId.{ListId}
 use Rattle.office_base.specs.declared.person.Person.{Person}
 use Rattle.office_base.specs.declared.step.Protections.{Protections}
 use Rattle.office_base.specs.declared.step.StepKind.{StepKind}
-use Rattle.office_base.specs.declared.step.StepKind.TheVariants.{Open, Ews, Obc, Sc, St, Dereserved}
+use Rattle.office_base.specs.declared.step.StepKind.TheVariants.{Open, Dereserved}
 use Rattle.seat_matrix.specs.Seats.{seats_of}
 use Rattle.seat_matrix.specs.declared.seats.ProgrammeSeats.{ProgrammeSeats}
 use Rattle.programme_lists.specs.Programme.{Admissions, people_of}
@@ -33,14 +34,7 @@ list_of_step programme kind = slice_index_or programme.steps (step_number kind) 
 
 -- whom the lists name
 abbrev pub named_by : Programme → Admissions
-named_by programme = record {
-  open_step = (list_of_step programme Open).admitted;
-  ews = (list_of_step programme Ews).admitted;
-  obc = (list_of_step programme Obc).admitted;
-  sc = (list_of_step programme Sc).admitted;
-  st = (list_of_step programme St).admitted;
-  dereserved = (list_of_step programme Dereserved).admitted;
-}
+named_by programme kind = (list_of_step programme kind).admitted
 
 -- ---- one step
 
@@ -70,21 +64,21 @@ people_at step = people_of step.seats.list step.applicants (named_by step.progra
 abbrev pub protections_at : Audited → Protections
 protections_at step = (seats_of step.seats step.kind).protections
 
--- the seats of the categories whose unfilled seats go to the last step, and how many persons their lists name
+-- a number of each step, summed over the categories whose unfilled seats go to the last step
+abbrev pub shared : ℕ → (StepKind → ℕ) → ℕ
+shared version number = sum (map (λ row. if gives_up row version then number row.step else 0) category_steps)
+
+-- the seats of these categories, and how many persons their lists name
 abbrev pub seats_shared : ℕ → ProgrammeSeats → ℕ
-seats_shared version seats = (seats_of seats Obc).seats + (if version == 2 then (seats_of seats Ews).seats else 0)
+seats_shared version seats = shared version (λ kind. (seats_of seats kind).seats)
 
 abbrev pub seats_held : ℕ → Admissions → ℕ
-seats_held version named = length named.obc + (if version == 2 then length named.ews else 0)
+seats_held version named = shared version (λ kind. length (named kind))
 
 -- A step has its own seats; the last one has so many that with the persons of those categories they make up these categories' seats.
 abbrev pub HasSeats : ℕ → ProgrammeSeats → Admissions → StepKind → ℕ → Type 0
-HasSeats version seats named Open n = n ≡ (seats_of seats Open).seats
-HasSeats version seats named Ews n = n ≡ (seats_of seats Ews).seats
-HasSeats version seats named Obc n = n ≡ (seats_of seats Obc).seats
-HasSeats version seats named Sc n = n ≡ (seats_of seats Sc).seats
-HasSeats version seats named St n = n ≡ (seats_of seats St).seats
 HasSeats version seats named Dereserved n = n + seats_held version named ≡ seats_shared version seats
+HasSeats version seats named kind n = n ≡ (seats_of seats kind).seats
 
 -- ---- the clauses
 

@@ -1,5 +1,7 @@
 -- What one step of a programme's lists comes to.
-use Rattle.std.specs.Prelude.{◌≡◌, ◌⊎◌, ◌≤◌, ◌<◌, ℕ, Option, Some, None, List, length}
+use Rattle.std.specs.Prelude.{◌≡◌, ◌⊎◌, ◌<◌, ℕ, Option, Some, None, List, length}
+use Rattle.office_base.specs.CategorySteps.{category_steps}
+use Rattle.office_base.specs.Lists.{IsAmong}
 use Rattle.office_base.specs.Person.{IsBetter}
 use Rattle.office_base.specs.Placement.{IsHonoured, IsPlacement}
 use Rattle.office_base.specs.declared.person.CandId.{CandId}
@@ -8,7 +10,7 @@ use Rattle.office_base.specs.declared.person.Person.{Person}
 use Rattle.office_base.specs.declared.step.Pair.{Pair}
 use Rattle.office_base.specs.declared.step.Protections.{Protections}
 use Rattle.office_base.specs.StepNumbers.{step_number}
-use Rattle.office_base.specs.declared.step.StepKind.{StepKind}
+use Rattle.office_base.specs.declared.category_steps.CategoryStep.{CategoryStep}
 use Rattle.programme_lists.specs.declared.programme.Programme.{Programme}
 use Rattle.programme_lists.specs.declared.programme.StepList.{StepList}
 use Rattle.seat_matrix.specs.declared.seats.ProgrammeSeats.{ProgrammeSeats}
@@ -48,14 +50,9 @@ IsChoiceFault list protections people shown None =
     Certifies protections people shown.admitted shown.cert.pairs × IsBestOf list protections people shown.admitted None
 IsChoiceFault list protections people shown (Some fault) = BreaksChoice list protections people shown fault.0 fault.1
 
--- the step is one of the four categories
-pub record IsOfCategory (kind : StepKind) : Type 0 where
-  pub after : 1 ≤ step_number kind
-  pub before : step_number kind ≤ 4
-
 -- no step of a category breaks a clause, or this one first
 abbrev pub IsCategoryFault : ℕ → ProgrammeSeats → List Person → Programme → Option (Clause × Option CandId) → Type 0
-IsCategoryFault version seats people programme None = (kind : StepKind) → IsOfCategory kind → IsSound (audited version seats people programme kind)
-IsCategoryFault version seats people programme (Some fault) = (kind : StepKind) × IsOfCategory kind
-    × ((other : StepKind) → IsOfCategory other → step_number other < step_number kind → IsSound (audited version seats people programme other))
-    × BreaksFirst (audited version seats people programme kind) fault.0 fault.1
+IsCategoryFault version seats people programme None = (row : CategoryStep) → IsAmong row category_steps → IsSound (audited version seats people programme row.step)
+IsCategoryFault version seats people programme (Some fault) = (row : CategoryStep) × IsAmong row category_steps
+    × ((other : CategoryStep) → IsAmong other category_steps → step_number other.step < step_number row.step → IsSound (audited version seats people programme other.step))
+    × BreaksFirst (audited version seats people programme row.step) fault.0 fault.1

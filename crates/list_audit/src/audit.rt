@@ -1,15 +1,15 @@
 // The lists of a programme: the first clause that they break.
 ghost use Rattle.std.specs.Prelude.{◌≡◌, ◌<◌, ◌≤◌, List, IfOk, length};
 ghost use Rattle.std.specs.List.{filter};
-ghost use Rattle.office_base.specs.Lists.{IsSublist};
+ghost use Rattle.office_base.specs.CategorySteps.{category_steps};
+ghost use Rattle.office_base.specs.Lists.{IsAmong, IsSublist};
 ghost use Rattle.office_base.specs.Merit.{in_merit};
 ghost use Rattle.office_base.specs.StepChoice.{AreRanked};
-ghost use Rattle.office_base.specs.StepNumbers.{step_number};
 ghost use Rattle.office_base.specs.Version.{IsVersion};
-ghost use Rattle.office_base.specs.declared.person.Category.TheVariants.{Ews as EwsMember, Obc as ObcMember, Sc as ScMember, St as StMember};
+ghost use Rattle.office_base.specs.declared.category_steps.CategoryStep.{CategoryStep as AnyRow};
 ghost use Rattle.office_base.specs.declared.person.Person.{Person as AnyPerson};
 ghost use Rattle.office_base.specs.declared.step.StepKind.{StepKind as AnyKind};
-ghost use Rattle.office_base.specs.declared.step.StepKind.TheVariants.{Ews as EwsStep, Obc as ObcStep, Sc as ScStep, St as StStep, Dereserved as DereservedStep};
+ghost use Rattle.office_base.specs.declared.step.StepKind.TheVariants.{Open as OpenStep, Dereserved as DereservedStep};
 ghost use Rattle.placements.specs.Ranks.{AreDistinct};
 ghost use Rattle.seat_matrix.specs.Matrix.{list_in, seats_in};
 ghost use Rattle.seat_matrix.specs.Seats.{AreProgrammeSeats};
@@ -24,7 +24,7 @@ use crate::stand::{left_over, without};
 use crate::steps::step_fault;
 use merit_choice::in_merit_order;
 use merit_choice::laws::{ranked_in_merit, ranked_part};
-use office_base::{OutOfMemory, Person, ProgId, StepKind};
+use office_base::{CATEGORY_STEPS, OutOfMemory, Person, ProgId, StepKind};
 use programme_lists::Programme;
 use seat_matrix::{Matrix, ProgrammeSeats};
 use std::alloc::Global;
@@ -36,21 +36,7 @@ fn named(programme: &Programme, kind: StepKind) -> &[Person]
     list_of(programme, kind).admitted.as_slice()
 }
 
-/// The step of a category, by its number among the six.
-fn category_step(number: u8) -> StepKind
-    requires after { 1 ≤ number }
-    requires before { number ≤ 4 }
-    ensures { step_number result ≡ number }
-{
-    match number {
-        1 => StepKind::Ews,
-        2 => StepKind::Obc,
-        3 => StepKind::Sc,
-        _ => StepKind::St,
-    }
-}
-
-/// The first clause that a step of the four categories breaks, from those whom the open step left.
+/// The first clause that the step of a category breaks, from those whom the open step left.
 fn category_fault(
     alloc: Global,
     version: u8,
@@ -62,12 +48,11 @@ fn category_fault(
     requires ranked { AreRanked seats.now.list rest.now }
     requires once { (kind : AnyKind) → AreDistinct (list_of_step programme.now kind).admitted }
     ensures { IfOk result (λ fault. (applicants : List AnyPerson)
-        → rest.now ≡ without (in_merit seats.now.list applicants) (named_by programme.now).open_step
+        → rest.now ≡ without (in_merit seats.now.list applicants) (named_by programme.now OpenStep)
         → IsCategoryFault version seats.now applicants programme.now fault) }
 {
-    for number in 1..5 {
-        let kind = category_step(number);
-        if let Some(fault) = step_fault(alloc, version, seats, programme, kind, rest)? {
+    for row in CATEGORY_STEPS {
+        if let Some(fault) = step_fault(alloc, version, seats, programme, row.step, rest)? {
             return Ok(Some(fault));
         }
     }
@@ -85,26 +70,13 @@ fn last_fault(
     requires seats { AreProgrammeSeats seats.now }
     requires ranked { AreRanked seats.now.list rest.now }
     requires once { AreDistinct (list_of_step programme.now DereservedStep).admitted }
-    requires ews { IsSublist (list_of_step programme.now EwsStep).admitted
-        (filter (is_of EwsMember) rest.now) }
-    requires obc { IsSublist (list_of_step programme.now ObcStep).admitted
-        (filter (is_of ObcMember) rest.now) }
-    requires sc { IsSublist (list_of_step programme.now ScStep).admitted
-        (filter (is_of ScMember) rest.now) }
-    requires st { IsSublist (list_of_step programme.now StStep).admitted
-        (filter (is_of StMember) rest.now) }
+    requires members { (row : AnyRow) → IsAmong row category_steps
+        → IsSublist (named_by programme.now row.step) (filter (is_of row.category) rest.now) }
     ensures { IfOk result (λ fault. (applicants : List AnyPerson)
-        → rest.now ≡ without (in_merit seats.now.list applicants) (named_by programme.now).open_step
+        → rest.now ≡ without (in_merit seats.now.list applicants) (named_by programme.now OpenStep)
         → IsStepFault (audited version seats.now applicants programme.now DereservedStep) fault) }
 {
-    let left = left_over(
-        alloc,
-        rest,
-        named(programme, StepKind::Ews),
-        named(programme, StepKind::Obc),
-        named(programme, StepKind::Sc),
-        named(programme, StepKind::St),
-    )?;
+    let left = left_over(alloc, rest, programme)?;
     step_fault(
         alloc,
         version,

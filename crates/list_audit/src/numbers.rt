@@ -4,7 +4,7 @@ ghost use Rattle.office_base.specs.declared.step.StepKind.TheVariants.{Dereserve
 ghost use Rattle.seat_matrix.specs.Seats.{AreProgrammeSeats};
 ghost use Rattle.list_audit.specs.Clauses.{HasSeats, list_of_step, named_by, seats_held, seats_shared};
 
-use office_base::{StepKind, step_number};
+use office_base::{CATEGORY_STEPS, StepKind, gives_up, step_number};
 use programme_lists::{Programme, StepList};
 use seat_matrix::ProgrammeSeats;
 
@@ -27,12 +27,13 @@ fn seats_shared(version: u8, seats: &ProgrammeSeats) -> u128
     requires { AreProgrammeSeats seats.now }
     ensures { result ≡ seats_shared version seats.now }
 {
-    let of_obc = u128::from(seats.of(StepKind::Obc).seats);
-    if version == 2 {
-        of_obc + u128::from(seats.of(StepKind::Ews).seats)
-    } else {
-        of_obc
+    let mut shared = 0;
+    for row in CATEGORY_STEPS {
+        if gives_up(row, version) {
+            shared += u128::from(seats.of(row.step).seats);
+        }
     }
+    shared
 }
 
 /// Returns the seats that the last list shows, with the persons whom the lists of those categories name.
@@ -40,13 +41,13 @@ fn seats_told(version: u8, programme: &Programme) -> u128
     ensures { result ≡ (list_of_step programme.now DereservedStep).seats
         + seats_held version (named_by programme.now) }
 {
-    let told = u128::from(list_of(programme, StepKind::Dereserved).seats);
-    let held = told + named_in(programme, StepKind::Obc) as u128;
-    if version == 2 {
-        held + named_in(programme, StepKind::Ews) as u128
-    } else {
-        held
+    let mut told = u128::from(list_of(programme, StepKind::Dereserved).seats);
+    for row in CATEGORY_STEPS {
+        if gives_up(row, version) {
+            told += named_in(programme, row.step) as u128;
+        }
     }
+    told
 }
 
 /// Returns whether the list of a step shows as many seats as the step has.
@@ -63,11 +64,7 @@ pub(crate) fn has_seats(
     let own = u32::from(seats.of(kind).seats);
     let told = list_of(programme, kind).seats;
     match kind {
-        StepKind::Open => told == own,
-        StepKind::Ews => told == own,
-        StepKind::Obc => told == own,
-        StepKind::Sc => told == own,
-        StepKind::St => told == own,
         StepKind::Dereserved => seats_told(version, programme) == seats_shared(version, seats),
+        _ => told == own,
     }
 }

@@ -4,7 +4,7 @@ ghost use Rattle.std.specs.Prelude.{◌≡◌, ◌↔◌, IsTrue};
 use office_base::{Category, Person, Place};
 
 /// Whether the two categories are one.
-fn same_category(a: Category, b: Category) -> bool
+pub(crate) fn same_category(a: Category, b: Category) -> bool
     ensures { IsTrue result ↔ a ≡ b }
 {
     match (a, b) {

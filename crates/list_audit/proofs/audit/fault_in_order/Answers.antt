@@ -8,7 +8,7 @@ use Rattle.programme_lists.specs.Programme.{without}
 use Rattle.list_audit.specs.Clauses.{audited}
 use Rattle.list_audit.specs.Steps.{IsCategoryFault, IsStepFault}
 use Rattle.list_audit.specs.declared.clause.Clause.{Clause}
-use Rattle.list_audit.proofs.Parts.{ews_part, obc_part, open_part, rest_ranked, rest_told, same_order, sc_part, st_part, whole}
+use Rattle.list_audit.proofs.Parts.{category_first, open_part, rest_ranked, rest_told, row_part, same_order, whole}
 use Rattle.list_audit.proofs.audit.fault_in_order.Goals as goal
 
 pub step_fault-requires-clause-once : goal.step_fault-requires-clause-once
@@ -35,45 +35,24 @@ last_fault-requires-clause-ranked c =
     rest_ranked c.ranked_part.ensures c.ranked_in_merit.ensures c.args.version c.args.seats.now c.args.ranked.now c.args.programme.now c.requires.ranked c.as_slice-2.result.now
     (c.as_slice-2.ensures ∙ c.in_ok-rest.ensures ∙ ap (λ (some : List Person). without c.args.ranked.now some) c.named.ensures)
 
-pub last_fault-requires-clause-ews : goal.last_fault-requires-clause-ews
-last_fault-requires-clause-ews c =
+pub last_fault-requires-clause-members : goal.last_fault-requires-clause-members
+last_fault-requires-clause-members c =
     let people = c.args.ranked.now in
     let order = same_order c.ranked_part.ensures c.ranked_in_merit.ensures c.args.version c.args.seats.now people c.args.programme.now c.requires.ranked in
     let left = c.as_slice.ensures ∙ c.in_ok-rest.ensures ∙ ap (λ (some : List Person). without people some) c.named.ensures in
     let told = rest_told c.ranked_part.ensures c.ranked_in_merit.ensures c.args.version c.args.seats.now people c.args.programme.now c.requires.ranked c.as_slice.result.now left people order in
     let each = subst (λ (fault : Option (Clause × Option CandId)). IsCategoryFault c.args.version c.args.seats.now people c.args.programme.now fault) c.in_default-2.is (c.in_ok-fault-2.ensures people told) in
-    ews_part c.ranked_part.ensures c.ranked_in_merit.ensures c.args.version c.args.seats.now people c.args.programme.now c.requires.ranked c.as_slice-2.result.now
+    row_part c.ranked_part.ensures c.ranked_in_merit.ensures c.args.version c.args.seats.now people c.args.programme.now c.requires.ranked c.as_slice-2.result.now
     (c.as_slice-2.ensures ∙ c.in_ok-rest.ensures ∙ ap (λ (some : List Person). without people some) c.named.ensures) each
 
-pub last_fault-requires-clause-obc : goal.last_fault-requires-clause-obc
-last_fault-requires-clause-obc c =
+pub returns-in-Some-2 : goal.returns-in-Some-2
+returns-in-Some-2 c applicants e =
     let people = c.args.ranked.now in
-    let order = same_order c.ranked_part.ensures c.ranked_in_merit.ensures c.args.version c.args.seats.now people c.args.programme.now c.requires.ranked in
     let left = c.as_slice.ensures ∙ c.in_ok-rest.ensures ∙ ap (λ (some : List Person). without people some) c.named.ensures in
-    let told = rest_told c.ranked_part.ensures c.ranked_in_merit.ensures c.args.version c.args.seats.now people c.args.programme.now c.requires.ranked c.as_slice.result.now left people order in
-    let each = subst (λ (fault : Option (Clause × Option CandId)). IsCategoryFault c.args.version c.args.seats.now people c.args.programme.now fault) c.in_default-2.is (c.in_ok-fault-2.ensures people told) in
-    obc_part c.ranked_part.ensures c.ranked_in_merit.ensures c.args.version c.args.seats.now people c.args.programme.now c.requires.ranked c.as_slice-2.result.now
-    (c.as_slice-2.ensures ∙ c.in_ok-rest.ensures ∙ ap (λ (some : List Person). without people some) c.named.ensures) each
-
-pub last_fault-requires-clause-sc : goal.last_fault-requires-clause-sc
-last_fault-requires-clause-sc c =
-    let people = c.args.ranked.now in
-    let order = same_order c.ranked_part.ensures c.ranked_in_merit.ensures c.args.version c.args.seats.now people c.args.programme.now c.requires.ranked in
-    let left = c.as_slice.ensures ∙ c.in_ok-rest.ensures ∙ ap (λ (some : List Person). without people some) c.named.ensures in
-    let told = rest_told c.ranked_part.ensures c.ranked_in_merit.ensures c.args.version c.args.seats.now people c.args.programme.now c.requires.ranked c.as_slice.result.now left people order in
-    let each = subst (λ (fault : Option (Clause × Option CandId)). IsCategoryFault c.args.version c.args.seats.now people c.args.programme.now fault) c.in_default-2.is (c.in_ok-fault-2.ensures people told) in
-    sc_part c.ranked_part.ensures c.ranked_in_merit.ensures c.args.version c.args.seats.now people c.args.programme.now c.requires.ranked c.as_slice-2.result.now
-    (c.as_slice-2.ensures ∙ c.in_ok-rest.ensures ∙ ap (λ (some : List Person). without people some) c.named.ensures) each
-
-pub last_fault-requires-clause-st : goal.last_fault-requires-clause-st
-last_fault-requires-clause-st c =
-    let people = c.args.ranked.now in
-    let order = same_order c.ranked_part.ensures c.ranked_in_merit.ensures c.args.version c.args.seats.now people c.args.programme.now c.requires.ranked in
-    let left = c.as_slice.ensures ∙ c.in_ok-rest.ensures ∙ ap (λ (some : List Person). without people some) c.named.ensures in
-    let told = rest_told c.ranked_part.ensures c.ranked_in_merit.ensures c.args.version c.args.seats.now people c.args.programme.now c.requires.ranked c.as_slice.result.now left people order in
-    let each = subst (λ (fault : Option (Clause × Option CandId)). IsCategoryFault c.args.version c.args.seats.now people c.args.programme.now fault) c.in_default-2.is (c.in_ok-fault-2.ensures people told) in
-    st_part c.ranked_part.ensures c.ranked_in_merit.ensures c.args.version c.args.seats.now people c.args.programme.now c.requires.ranked c.as_slice-2.result.now
-    (c.as_slice-2.ensures ∙ c.in_ok-rest.ensures ∙ ap (λ (some : List Person). without people some) c.named.ensures) each
+    let told = rest_told c.ranked_part.ensures c.ranked_in_merit.ensures c.args.version c.args.seats.now people c.args.programme.now c.requires.ranked c.as_slice.result.now left applicants e in
+    let first = subst (λ (fault : Option (Clause × Option CandId)). IsStepFault (audited c.args.version c.args.seats.now applicants c.args.programme.now Open) fault) c.in_default.is (c.in_ok-fault.ensures applicants e) in
+    let found = subst (λ (fault : Option (Clause × Option CandId)). IsCategoryFault c.args.version c.args.seats.now applicants c.args.programme.now fault) c.in-Some-2.is (c.in_ok-fault-2.ensures applicants told) in
+    category_first c.args.version c.args.seats.now applicants c.args.programme.now _ first found
 
 pub returns : goal.returns
 returns c = IfOk-weaker c.last_fault.result _ _ (λ fault last applicants e.
