@@ -1,32 +1,36 @@
 -- Only the choice meets the axioms: no single exchange would improve a set that does.
-use Rattle.std.proofs.Common.{◌≡◌, ◌≢◌, ◌≤◌, ◌<◌, inl, inr, ℕ, zero, suc, List, [], ◌∷◌, length, min, take, arith, refl, sym, ap, ◌∙◌, subst}
+use Rattle.std.proofs.Common.{◌≡◌, ◌≢◌, ◌≤◌, ◌<◌, inl, inr, ℕ, zero, suc, false, Option, Some, None, List, [], ◌∷◌, length, min, take, arith, refl, sym, ap, ◌∙◌, subst}
 use Rattle.std.specs.List.{AllByRecursion}
 use Rattle.std.proofs.lemmas.Bool.{cases_lt}
+use Rattle.office_base.specs.CategorySteps.{own_steps, row_of}
 use Rattle.office_base.specs.Lists.{IsAmong, IsSublist, Pairwise}
 use Rattle.office_base.specs.Merit.{in_merit}
 use Rattle.office_base.specs.Person.{IsBetter, is_common, number_in}
 use Rattle.office_base.specs.Placement.{IsHonoured}
 use Rattle.office_base.specs.StepChoice.{AreRanked, IsStep, IsStepChoice}
+use Rattle.office_base.specs.declared.category_steps.CategoryStep.{CategoryStep}
 use Rattle.office_base.specs.declared.person.ListId.{ListId}
 use Rattle.office_base.specs.declared.person.Person.{Person}
 use Rattle.office_base.specs.declared.step.StepKind.{StepKind}
-use Rattle.office_base.specs.declared.step.StepKind.TheVariants.{Open, Ews as EwsStep, Obc as ObcStep, Sc as ScStep, St as StStep, Dereserved}
+use Rattle.office_base.specs.declared.step.StepKind.TheVariants.{Open, Dereserved}
 use Rattle.placements.specs.Ranks.{without}
 use Rattle.placements.proofs.Filters.{filter-sublist}
 use Rattle.placements.proofs.Greatest.{honoured-exists}
 use Rattle.placements.proofs.Merit.{not_ahead}
 use Rattle.placements.proofs.Ranks.{among_sublist, any_all, are_among, pairwise_sublist, ranked_sublist, widen}
-use Rattle.placements.proofs.Sublists.{AllByRecursion-sublist, length-sublist, sublist_again}
+use Rattle.placements.proofs.Sublists.{AllByRecursion-sublist, IsSublist-nil, IsSublist-same, length-sublist, sublist_again}
 use Rattle.placements.proofs.Without.{without_sublist}
 use Rattle.merit_choice.specs.InMerit.{InMeritRanks, RankedPart}
 use Rattle.merit_choice.proofs.Needed.{apart_of}
-use Rattle.seat_matrix.specs.Seats.{AreProgrammeSeats, no_protections}
+use Rattle.seat_matrix.specs.Seats.{AreProgrammeSeats, is_dereserved, no_protections}
 use Rattle.seat_matrix.specs.declared.seats.ProgrammeSeats.{ProgrammeSeats}
 use Rattle.seat_matrix.proofs.Unprotected.{nobody_placed}
-use Rattle.programme_lists.specs.Programme.{Admissions, IsProgrammeChoice, admitted_by, left_over, people_of, unfilled}
+use Rattle.programme_lists.specs.Programme.{Admissions, IsProgrammeChoice, admitted_by, is_of, left_by, left_over, members_by, people_of, step_of, unfilled}
+use Rattle.programme_lists.specs.Programme.{without as without_taken}
 use Rattle.open_then_category.specs.Laws.{whole_step}
 use Rattle.list_audit.specs.Laws.{SingleExchanges}
 use Rattle.axiom_laws.specs.Laws.{MeetsThemAtEachStep, OneMeetsTheAxioms, OneMeetsTheAxiomsOfAStep}
+use Rattle.programme_lists.proofs.Parts.{left_part, members_part, people_part}
 
 -- ---- one step
 
@@ -104,41 +108,26 @@ took zero (suc n) (x ∷ people) e = absurd (omega (arith, e))
 took (suc k) zero (x ∷ people) e = absurd (omega (arith, e))
 took (suc k) (suc n) (x ∷ people) e = ap (λ l. x ∷ l) (took k n people (omega (arith, e)))
 
+-- ---- the people of a step
+
 -- ---- a programme
 
 module _ (at_a_step : OneMeetsTheAxiomsOfAStep) (version : ℕ) (seats : ProgrammeSeats) (applicants : List Person) (admissions : Admissions) (ok : AreProgrammeSeats seats)
     (ranked : AreRanked seats.list applicants) (meets : MeetsThemAtEachStep version seats applicants admissions) where
-  -- the people of each step are some of the applicants, in their order
-  left_within : IsSublist (left_over applicants admissions) applicants
-  left_within = sublist_again _ _ _ (filter-sublist _ _) (sublist_again _ _ _ (filter-sublist _ _) (sublist_again _ _ _ (filter-sublist _ _)
-      (sublist_again _ _ _ (filter-sublist _ _) (filter-sublist _ applicants))))
-
-  people_within : (kind : StepKind) → IsSublist (people_of seats.list applicants admissions kind) applicants
-  people_within Open = filter-sublist _ applicants
-  people_within EwsStep = sublist_again _ _ _ (filter-sublist _ _) (filter-sublist _ applicants)
-  people_within ObcStep = sublist_again _ _ _ (filter-sublist _ _) (filter-sublist _ applicants)
-  people_within ScStep = sublist_again _ _ _ (filter-sublist _ _) (filter-sublist _ applicants)
-  people_within StStep = sublist_again _ _ _ (filter-sublist _ _) (filter-sublist _ applicants)
-  people_within Dereserved = sublist_again _ _ _ (filter-sublist (is_common seats.list) (left_over applicants admissions)) left_within
-
   people_ranked : (kind : StepKind) → AreRanked seats.list (people_of seats.list applicants admissions kind)
-  people_ranked kind = ranked_sublist seats.list _ applicants ranked (people_within kind)
+  people_ranked kind = ranked_sublist seats.list _ applicants ranked (people_part seats.list applicants admissions kind)
 
   is_step : (kind : StepKind) → IsStep (whole_step version seats applicants admissions kind)
-  is_step Open = record { list = ok.list; people = people_ranked Open; protections = (ok.steps Open).protections }
-  is_step EwsStep = record { list = ok.list; people = people_ranked EwsStep; protections = (ok.steps EwsStep).protections }
-  is_step ObcStep = record { list = ok.list; people = people_ranked ObcStep; protections = (ok.steps ObcStep).protections }
-  is_step ScStep = record { list = ok.list; people = people_ranked ScStep; protections = (ok.steps ScStep).protections }
-  is_step StStep = record { list = ok.list; people = people_ranked StStep; protections = (ok.steps StStep).protections }
   is_step Dereserved = record { list = ok.list; people = people_ranked Dereserved; protections = omega arith }
+  is_step kind = record { list = ok.list; people = people_ranked kind; protections = (ok.steps kind).protections }
 
   chosen_at : (kind : StepKind) → IsStepChoice (whole_step version seats applicants admissions kind) (admitted_by admissions kind)
   chosen_at kind = at_a_step (whole_step version seats applicants admissions kind) (admitted_by admissions kind) (is_step kind) (meets.within kind) (meets.axioms kind)
 
-  last_is : RankedPart → admissions.dereserved ≡ take (unfilled version seats admissions) (people_of seats.list applicants admissions Dereserved)
+  last_is : RankedPart → admissions Dereserved ≡ take (unfilled version seats admissions) (people_of seats.list applicants admissions Dereserved)
   last_is part =
       let people = people_of seats.list applicants admissions Dereserved in
-      let chosen = admissions.dereserved in
+      let chosen = admissions Dereserved in
       let axioms = meets.axioms Dereserved in
       let may = meets.within Dereserved in
       let order = people_ranked Dereserved in
@@ -150,14 +139,11 @@ module _ (at_a_step : OneMeetsTheAxiomsOfAStep) (version : ℕ) (seats : Program
       ∙ took (length chosen) (unfilled version seats admissions) people size
 
   pub its_choice : RankedPart → IsProgrammeChoice version seats applicants admissions
-  its_choice part = record {
-    open_step = chosen_at Open;
-    ews = chosen_at EwsStep;
-    obc = chosen_at ObcStep;
-    sc = chosen_at ScStep;
-    st = chosen_at StStep;
-    dereserved = last_is part;
-  }
+  its_choice part = record { own = own; dereserved = last_is part }
+    where
+      own : (kind : StepKind) → is_dereserved kind ≡ false → IsStepChoice (step_of seats applicants admissions kind) (admissions kind)
+      own Dereserved plain = absurd (cc plain)
+      own kind plain = chosen_at kind
 
 pub one_at_all_steps : OneMeetsTheAxiomsOfAStep → InMeritRanks → RankedPart → OneMeetsTheAxioms
 one_at_all_steps at_a_step ranks part version seats people admissions ok may meets =
