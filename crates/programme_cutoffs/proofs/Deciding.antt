@@ -1,6 +1,7 @@
 -- The cutoffs of a programme decide, step by step: a step that does not admit the person admits whom it admitted before, and the next one sees the person too.
-use Rattle.std.proofs.Common.{◌≡◌, ◌⊎◌, ◌∙◌, inl, inr, ℕ, zero, suc, ◌≤◌, ◌<◌, List, length, arith, refl, sym, ap, subst}
+use Rattle.std.proofs.Common.{◌≡◌, ◌⊎◌, inl, inr, ℕ, zero, suc, ◌≤◌, ◌<◌, false, List, [], ◌∷◌, length, arith, refl, sym, ap, subst}
 use Rattle.std.specs.Prelude.{◌↔◌}
+use Rattle.office_base.specs.CategorySteps.{all_steps}
 use Rattle.office_base.specs.Lists.{IsAmong}
 use Rattle.office_base.specs.Merit.{in_merit}
 use Rattle.office_base.specs.StepChoice.{AreRanked}
@@ -8,8 +9,9 @@ use Rattle.office_base.specs.StepNumbers.{step_number}
 use Rattle.office_base.specs.declared.person.Person.{Person}
 use Rattle.office_base.specs.declared.step.Step.{Step}
 use Rattle.office_base.specs.declared.step.StepKind.{StepKind}
-use Rattle.office_base.specs.declared.step.StepKind.TheVariants.{Open, Ews as EwsStep, Obc as ObcStep, Sc as ScStep, St as StStep, Dereserved}
-use Rattle.office_base.proofs.Lists.{all_among}
+use Rattle.office_base.specs.declared.step.StepKind.TheVariants.{Open, Dereserved}
+use Rattle.office_base.proofs.Lists.{all_among, at_among}
+use Rattle.office_base.proofs.StepNumbers.{kind_at}
 use Rattle.placements.specs.Ranks.{AreAmong}
 use Rattle.placements.proofs.Ranks.{among_again, are_among, widen}
 use Rattle.merit_choice.specs.Laws.{HasMorePeople, LeavingOutRefused}
@@ -17,8 +19,7 @@ use Rattle.merit_choice.proofs.InMerit.{in_merit_ranks, part_can_be_ranked}
 use Rattle.merit_choice.proofs.Needed.{decides, nobody_of}
 use Rattle.step_cutoffs.specs.Laws.{CutoffExists, CutoffsDecide}
 use Rattle.step_cutoffs.specs.Laws as step
-use Rattle.seat_matrix.specs.Seats.{AreProgrammeSeats, seats_of}
-use Rattle.seat_matrix.specs.Unfilled.{left_unfilled}
+use Rattle.seat_matrix.specs.Seats.{AreProgrammeSeats, is_dereserved}
 use Rattle.seat_matrix.specs.declared.seats.ProgrammeSeats.{ProgrammeSeats}
 use Rattle.programme_lists.specs.Chosen.{IsAdmitted, IsRefused}
 use Rattle.programme_lists.specs.Listing.{seats_filled}
@@ -27,36 +28,29 @@ use Rattle.open_then_category.specs.Laws.{OneStep, whole_step}
 use Rattle.programme_cutoffs.specs.Cutoffs.{MeetsCutoff, MeetsFirst, kept_by}
 use Rattle.programme_cutoffs.specs.Laws.{CutoffsDecideAdmissions, CutoffsDecideSteps, IsJoinedBy}
 use Rattle.programme_cutoffs.proofs.Last.{LastStepChooses}
-use Rattle.programme_cutoffs.proofs.Standing.{IsNotTaken, admitted_stand, admitted_within, chosen_at, is_step, kept, may_stand, stands}
+use Rattle.programme_lists.proofs.Parts.{same_by_own}
+use Rattle.programme_cutoffs.proofs.Standing.{IsNotTaken, admitted_stand, admitted_within, below_last, chosen_at, is_step, kept, may_stand, stands}
 
 -- some step admits the person, or none does
 pub some_or_none : (after : Admissions) (person : Person) → ((kind : StepKind) → IsAmong person (admitted_by after kind) ⊎ (IsAmong person (admitted_by after kind) → ⊥))
     → IsAdmitted after person ⊎ IsRefused after person
-some_or_none after person decided = elim (decided Open) [
-  | inl here ↦ inl (Open, here)
-  | inr first ↦ elim (decided EwsStep) [
-    | inl here ↦ inl (EwsStep, here)
-    | inr ews ↦ elim (decided ObcStep) [
-      | inl here ↦ inl (ObcStep, here)
-      | inr obc ↦ elim (decided ScStep) [
-        | inl here ↦ inl (ScStep, here)
-        | inr sc ↦ elim (decided StStep) [
-          | inl here ↦ inl (StStep, here)
-          | inr st ↦ elim (decided Dereserved) [ inl here ↦ inl (Dereserved, here) | inr last ↦ inr (all_refuse first ews obc sc st last) ]
-        ]
-      ]
-    ]
-  ]
+some_or_none after person decided = elim (among all_steps) [
+  | inl found ↦ inl found
+  | inr none ↦ inr (λ kind. none kind (at_among all_steps (step_number kind) kind (kind_at kind)))
 ]
   where
-    all_refuse : (IsAmong person after.open_step → ⊥) → (IsAmong person after.ews → ⊥) → (IsAmong person after.obc → ⊥) → (IsAmong person after.sc → ⊥) → (IsAmong person after.st → ⊥)
-        → (IsAmong person after.dereserved → ⊥) → (kind : StepKind) → IsAmong person (admitted_by after kind) → ⊥
-    all_refuse first ews obc sc st last Open = first
-    all_refuse first ews obc sc st last EwsStep = ews
-    all_refuse first ews obc sc st last ObcStep = obc
-    all_refuse first ews obc sc st last ScStep = sc
-    all_refuse first ews obc sc st last StStep = st
-    all_refuse first ews obc sc st last Dereserved = last
+    among : (kinds : List StepKind) → IsAdmitted after person ⊎ ((kind : StepKind) → IsAmong kind kinds → IsAmong person (admitted_by after kind) → ⊥)
+    among [] = inr (λ kind there. absurd there)
+    among (first ∷ kinds) = elim (decided first) [
+      | inl here ↦ inl (first, here)
+      | inr out ↦ elim (among kinds) [
+        | inl found ↦ inl found
+        | inr none ↦ inr (λ kind there. elim there [
+          | inl same ↦ subst (λ k. IsAmong person (admitted_by after k) → ⊥) (sym same) out
+          | inr later ↦ none kind later
+        ])
+      ]
+    ]
 
 module _ (decide : CutoffsDecide) (exists : CutoffExists) (leaving : LeavingOutRefused) (last : LastStepChooses) (version : ℕ) (seats : ProgrammeSeats) (some all : List Person) (before after : Admissions)
     (ok : AreProgrammeSeats seats) (ranked : AreRanked seats.list some) (ranked' : AreRanked seats.list all) (choice : IsProgrammeChoice version seats some before)
@@ -136,41 +130,30 @@ module _ (decide : CutoffsDecide) (exists : CutoffExists) (leaving : LeavingOutR
   open_settled = settled Open refl (λ other free. free) (λ other free. free) tt
 
   -- who is not taken by the open step was not, and the other way round
-  still_free : (other : Person) → (IsAmong person after.open_step → ⊥) → (IsAmong other before.open_step → ⊥) → IsAmong other after.open_step → ⊥
+  still_free : (other : Person) → (IsAmong person (after Open) → ⊥) → (IsAmong other (before Open) → ⊥) → IsAmong other (after Open) → ⊥
   still_free other gone free here = free (subst (IsAmong other) (sym (open_settled.same gone)) here)
 
-  was_free : (other : Person) → (IsAmong person after.open_step → ⊥) → (IsAmong other after.open_step → ⊥) → IsAmong other before.open_step → ⊥
+  was_free : (other : Person) → (IsAmong person (after Open) → ⊥) → (IsAmong other (after Open) → ⊥) → IsAmong other (before Open) → ⊥
   was_free other gone free here = free (subst (IsAmong other) (open_settled.same gone) here)
 
   -- before the de-reserved step
-  early_settled : (kind : StepKind) → step_number kind < 5 → OutBefore kind → IsSettled kind
-  early_settled Open less out = open_settled
-  early_settled EwsStep less out = let gone = out Open (omega arith) in settled EwsStep refl (λ other. still_free other gone) (λ other. was_free other gone) gone
-  early_settled ObcStep less out = let gone = out Open (omega arith) in settled ObcStep refl (λ other. still_free other gone) (λ other. was_free other gone) gone
-  early_settled ScStep less out = let gone = out Open (omega arith) in settled ScStep refl (λ other. still_free other gone) (λ other. was_free other gone) gone
-  early_settled StStep less out = let gone = out Open (omega arith) in settled StStep refl (λ other. still_free other gone) (λ other. was_free other gone) gone
-  early_settled Dereserved less out = absurd (omega (arith, less))
+  early_settled : (kind : StepKind) → is_dereserved kind ≡ false → OutBefore kind → IsSettled kind
+  early_settled Open own out = open_settled
+  early_settled Dereserved own out = absurd (cc own)
+  early_settled kind own out = let gone = out Open (omega arith) in settled kind refl (λ other. still_free other gone) (λ other. was_free other gone) gone
 
   last_settled : OutBefore Dereserved → IsSettled Dereserved
   last_settled out =
-      let same = λ (kind : StepKind) (less : step_number kind < 5). (early_settled kind less (λ earlier below. out earlier (omega (arith, below, less)))).same (out kind less) in
-      let ews_seats = (seats_of seats EwsStep).seats in
-      let obc_seats = (seats_of seats ObcStep).seats in
-      let count : unfilled version seats before ≡ unfilled version seats after =
-      ap (λ (ews : List Person). left_unfilled version ews_seats (length ews) obc_seats (length before.obc)) (same EwsStep (omega arith))
-      ∙ ap (λ (obc : List Person). left_unfilled version ews_seats (length after.ews) obc_seats (length obc)) (same ObcStep (omega arith)) in
-      settled Dereserved count
-      (λ other free kind less here. free kind less (subst (IsAmong other) (sym (same kind less)) here))
-      (λ other free kind less here. free kind less (subst (IsAmong other) (same kind less) here))
-      out
+      let same : (kind : StepKind) → is_dereserved kind ≡ false → before kind ≡ after kind =
+      λ kind own. (early_settled kind own (λ earlier less. out earlier (let last = below_last kind own in omega (arith, less, last)))).same (out kind (below_last kind own)) in
+      settled Dereserved (ap (λ (own : Admissions). unfilled version seats own) (same_by_own before after same))
+      (λ other free kind own here. free kind own (subst (IsAmong other) (sym (same kind own)) here))
+      (λ other free kind own here. free kind own (subst (IsAmong other) (same kind own) here))
+      (λ kind own. out kind (below_last kind own))
 
   settle : (kind : StepKind) → OutBefore kind → IsSettled kind
-  settle Open out = open_settled
-  settle EwsStep out = early_settled EwsStep (omega arith) out
-  settle ObcStep out = early_settled ObcStep (omega arith) out
-  settle ScStep out = early_settled ScStep (omega arith) out
-  settle StStep out = early_settled StStep (omega arith) out
   settle Dereserved out = last_settled out
+  settle kind out = early_settled kind refl out
 
   -- ---- the first step
 

@@ -14,13 +14,13 @@ use Rattle.axiom_laws.specs.Laws.{OneMeetsTheAxiomsOfAStep}
 abbrev pub LastStepChooses : Type 0
 LastStepChooses = (version : ℕ) (seats : ProgrammeSeats) (people : List Person) (admissions : Admissions) → AreProgrammeSeats seats → AreRanked seats.list people
     → IsProgrammeChoice version seats people admissions → IsStep (whole_step version seats people admissions Dereserved)
-    → IsStepChoice (whole_step version seats people admissions Dereserved) admissions.dereserved
+    → IsStepChoice (whole_step version seats people admissions Dereserved) (admissions Dereserved)
 
 pub last_step_chooses : ChoicesMeetAxioms → OneMeetsTheAxiomsOfAStep → LastStepChooses
 last_step_chooses meet one version seats people admissions ok ranked choice is_step =
     let step = whole_step version seats people admissions Dereserved in
     let n = unfilled version seats admissions in
     let those = people_of seats.list people admissions Dereserved in
-    let may : MayAdmit step admissions.dereserved =
+    let may : MayAdmit step (admissions Dereserved) =
     subst (MayAdmit step) (sym choice.dereserved) (record { people = IsSublist-take n those; seats = length_take_most n those }) in
-    one step admissions.dereserved is_step may ((meet version seats people admissions ok ranked choice).at_steps Dereserved)
+    one step (admissions Dereserved) is_step may ((meet version seats people admissions ok ranked choice).at_steps Dereserved)

@@ -3,13 +3,16 @@ use Rattle.std.proofs.Common.{◌≡◌, ◌∙◌, inl, inr, ℕ, true, false, 
 use Rattle.std.specs.Prelude.{nat_lt}
 use Rattle.std.specs.List.{AllZip}
 use Rattle.std.proofs.lemmas.Bool.{both_ways, cases_Bool, cases_lt, cond-false, cond-true, lt-ltb, ltb-true}
+use Rattle.office_base.specs.CategorySteps.{all_steps}
 use Rattle.office_base.specs.Lists.{AnyByRecursion, IsAmong}
 use Rattle.office_base.specs.Merit.{in_merit}
 use Rattle.office_base.specs.Person.{IsTraitSet, number_in}
+use Rattle.office_base.specs.StepNumbers.{step_number}
 use Rattle.office_base.specs.declared.person.Person.{Person}
 use Rattle.office_base.specs.declared.person.TraitSet.{TraitSet}
 use Rattle.office_base.specs.declared.step.StepKind.{StepKind}
-use Rattle.office_base.specs.declared.step.StepKind.TheVariants.{Open, Ews, Obc, Sc, St, Dereserved}
+use Rattle.office_base.proofs.Lists.{at_among}
+use Rattle.office_base.proofs.StepNumbers.{kind_at}
 use Rattle.placements.specs.Demand.{is_within}
 use Rattle.placements.proofs.Ranks.{any_append}
 use Rattle.merit_choice.specs.State.{IsStepKept, StepKept}
@@ -31,6 +34,7 @@ use Rattle.list_cutoffs.specs.declared.cutoffs.StepCutoff.{StepCutoff}
 use Rattle.programme_cutoffs.specs.Cutoffs.{MeetsCutoff, kept_by}
 use Rattle.programme_cutoffs.specs.Laws.{LinesTellCutoffs, ListsAreKept, StepsAreKept}
 use Rattle.programme_cutoffs.specs.Reading.{IsWithinLine, IsWithinStep}
+use Rattle.programme_lists.proofs.Parts.{any_step}
 
 -- ---- the widest of the lines that are read
 
@@ -154,17 +158,6 @@ step_shown {A} R (first ∷ xs) (y ∷ ys) x all here = elim here [
   | inr later ↦ let found = step_shown R xs ys x all.1 later in (found.0, found.1, inr found.2)
 ]
 
-abbrev six : List StepKind
-six = Open ∷ Ews ∷ Obc ∷ Sc ∷ St ∷ Dereserved ∷ []
-
-six_steps : (kind : StepKind) → IsAmong kind six
-six_steps Open = inl refl
-six_steps Ews = inr (inl refl)
-six_steps Obc = inr (inr (inl refl))
-six_steps Sc = inr (inr (inr (inl refl)))
-six_steps St = inr (inr (inr (inr (inl refl))))
-six_steps Dereserved = inr (inr (inr (inr (inr (inl refl)))))
-
 module _ (version : ℕ) (seats : ProgrammeSeats) (applicants : List Person) (admissions : Admissions) where
   same_kept : (kind : StepKind) (list : StepList) → ShowsStep version seats applicants admissions kind list → kept_listed seats list ≡ kept_by version seats admissions kind
   same_kept kind list shows =
@@ -192,7 +185,7 @@ module _ (version : ℕ) (seats : ProgrammeSeats) (applicants : List Person) (ad
 
     to_lines : MeetsCutoff version seats admissions person kind → IsWithinStep seats.list person kind cutoffs
     to_lines meets =
-        let found = step_shown (ShowsStep version seats applicants admissions) six programme.steps kind shows (six_steps kind) in
+        let found = step_shown (ShowsStep version seats applicants admissions) all_steps programme.steps kind shows (any_step kind) in
         let list = found.0 in
         let own = each_list OfStep seats programme.steps list cutoffs lines found.2 in
         let read = subst (λ (step : StepKept). IsCutoff step person.traits (read_lines person.traits own.0)) (same_kept kind list found.1) (own.1 person.traits small) in
@@ -206,7 +199,7 @@ module _ (version : ℕ) (seats : ProgrammeSeats) (applicants : List Person) (ad
     from_lines within =
         let found = some_list OfStep seats programme.steps cutoffs lines within in
         let list = found.0 in
-        let shown = one_shown (ShowsStep version seats applicants admissions) six programme.steps list shows found.1 in
+        let shown = one_shown (ShowsStep version seats applicants admissions) all_steps programme.steps list shows found.1 in
         let any = map_any (under list.kind) OfStep found.2 found.4 in
         let is = its found.2 list.kind any in
         let same : shown.0 ≡ kind = sym shown.1.of_kind ∙ is.0 in
@@ -229,7 +222,7 @@ module _ (version : ℕ) (seats : ProgrammeSeats) (applicants : List Person) (ad
 
 pub lists_are_kept : StepsAreKept → ListsAreKept
 lists_are_kept kept version seats people programme ok may shows =
-    all_kept version seats (in_merit seats.list people) shows.0 (λ kind. kept version seats people shows.0 kind ok may shows.1) six programme.steps shows.2
+    all_kept version seats (in_merit seats.list people) shows.0 (λ kind. kept version seats people shows.0 kind ok may shows.1) all_steps programme.steps shows.2
 
 pub lines_tell_cutoffs : OneCutoff → StepsAreKept → LinesTellCutoffs
 lines_tell_cutoffs one kept version seats people admissions programme cutoffs person kind ok may choice shows lines small =

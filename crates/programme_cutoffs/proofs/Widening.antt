@@ -1,17 +1,19 @@
 -- With fewer applicants and more seats each step of a programme has no other people than before, and no fewer seats. So its cutoffs only widen.
-use Rattle.std.proofs.Common.{◌≡◌, ◌+◌, ◌-◌, ◌≤◌, ◌<◌, ℕ, Bool, true, false, List, Option, length, min, sym, subst, arith}
-use Rattle.std.specs.Prelude.{◌==◌, if◌then◌else◌}
+use Rattle.std.proofs.Common.{◌≡◌, ◌-◌, ◌≤◌, ℕ, Bool, true, false, List, [], ◌∷◌, Option, length, min, refl, sym, subst, arith}
+use Rattle.std.specs.Prelude.{map, sum, if◌then◌else◌}
+use Rattle.std.proofs.lemmas.List.Sums.{sum_by-cons}
+use Rattle.office_base.specs.CategorySteps.{category_steps, gives_up}
 use Rattle.office_base.specs.Lists.{IsAmong}
 use Rattle.office_base.specs.Merit.{CanBeRanked, in_merit}
 use Rattle.office_base.specs.Person.{IsTraitSet, number_in}
 use Rattle.office_base.specs.StepChoice.{AreRanked}
-use Rattle.office_base.specs.StepNumbers.{step_number}
+use Rattle.office_base.specs.declared.category_steps.CategoryStep.{CategoryStep}
 use Rattle.office_base.specs.declared.person.ListId.{ListId}
 use Rattle.office_base.specs.declared.person.Person.{Person}
 use Rattle.office_base.specs.declared.person.TraitSet.{TraitSet}
 use Rattle.office_base.specs.declared.step.Step.{Step}
 use Rattle.office_base.specs.declared.step.StepKind.{StepKind}
-use Rattle.office_base.specs.declared.step.StepKind.TheVariants.{Open, Ews as EwsStep, Obc as ObcStep, Sc as ScStep, St as StStep, Dereserved}
+use Rattle.office_base.specs.declared.step.StepKind.TheVariants.{Open, Dereserved}
 use Rattle.placements.specs.Ranks.{AreAmong}
 use Rattle.placements.proofs.Ranks.{among_again, are_among, widen}
 use Rattle.placements.proofs.Sublists.{length-sublist}
@@ -21,7 +23,7 @@ use Rattle.merit_choice.specs.State.{IsStepKept}
 use Rattle.step_cutoffs.specs.Cutoff.{IsCutoff, IsNoWider, IsWithin}
 use Rattle.step_cutoffs.specs.Laws.{AdmittedStay, CutoffExists, EasedIsWider, IsEased}
 use Rattle.step_cutoffs.specs.declared.cutoff.Cutoff.{Cutoff}
-use Rattle.seat_matrix.specs.Seats.{AreProgrammeSeats, HaveMoreSeats, seats_of}
+use Rattle.seat_matrix.specs.Seats.{AreProgrammeSeats, HaveMoreSeats, is_dereserved, seats_of}
 use Rattle.seat_matrix.specs.declared.seats.ProgrammeSeats.{ProgrammeSeats}
 use Rattle.programme_lists.specs.Chosen.{AreApplicants}
 use Rattle.programme_lists.specs.Listing.{seats_filled}
@@ -37,9 +39,20 @@ use Rattle.programme_cutoffs.proofs.Standing.{IsNotTaken, admitted_stand, chosen
 empty_grow : (seats more people fewer taken later : ℕ) → seats ≤ more → fewer ≤ people → taken ≡ min seats people → later ≡ min more fewer → seats - taken ≤ more - later
 empty_grow seats more people fewer taken later wide few first second = omega (arith, wide, few, first, second)
 
-both_grow : (second : Bool) (a b c d : ℕ) → a ≤ b → c ≤ d → a + (if second then c else 0) ≤ b + (if second then d else 0)
-both_grow true a b c d first other = omega (arith, first, other)
-both_grow false a b c d first other = omega (arith, first)
+-- and so of the categories together
+all_grow : (version : ℕ) (seats held more later : StepKind → ℕ) (rows : List CategoryStep) → ((kind : StepKind) → seats kind - held kind ≤ more kind - later kind)
+    → sum (map (λ row. if gives_up row version then seats row.step - held row.step else 0) rows) ≤ sum (map (λ row. if gives_up row version then more row.step - later row.step else 0) rows)
+all_grow version seats held more later [] each = omega arith
+all_grow version seats held more later (row ∷ rows) each =
+    let first = sum_by-cons (λ (n : ℕ). n) (if gives_up row version then seats row.step - held row.step else 0) (map (λ row. if gives_up row version then seats row.step - held row.step else 0) rows) in
+    let second = sum_by-cons (λ (n : ℕ). n) (if gives_up row version then more row.step - later row.step else 0) (map (λ row. if gives_up row version then more row.step - later row.step else 0) rows) in
+    let one = by_row (gives_up row version) (seats row.step - held row.step) (more row.step - later row.step) (each row.step) in
+    let rest = all_grow version seats held more later rows each in
+    omega (arith, first, second, one, rest)
+  where
+    by_row : (gives : Bool) (a b : ℕ) → a ≤ b → (if gives then a else 0) ≤ (if gives then b else 0)
+    by_row true a b fewer = fewer
+    by_row false a b fewer = omega arith
 
 module _ (last : LastStepChooses) (stay : AdmittedStay) (size : ChoiceSize) (version : ℕ) (seats more : ProgrammeSeats) (all some : List Person) (before after : Admissions)
     (ok : AreProgrammeSeats seats) (ok' : AreProgrammeSeats more) (wide : HaveMoreSeats seats more) (ranked : AreRanked seats.list all) (ranked' : AreRanked more.list some)
@@ -78,27 +91,21 @@ module _ (last : LastStepChooses) (stay : AdmittedStay) (size : ChoiceSize) (ver
   open_eased : IsEased (one Open) (two Open)
   open_eased = eased_at Open (wide.seats Open) (λ other here free. free)
 
-  open_free : (other : Person) → IsAmong other some → (IsAmong other after.open_step → ⊥) → IsAmong other before.open_step → ⊥
+  open_free : (other : Person) → IsAmong other some → (IsAmong other (after Open) → ⊥) → IsAmong other (before Open) → ⊥
   open_free other here gone was = gone (still_at Open open_eased other here tt was)
 
-  early_eased : (kind : StepKind) → step_number kind < 5 → IsEased (one kind) (two kind)
-  early_eased Open less = open_eased
-  early_eased EwsStep less = eased_at EwsStep (wide.seats EwsStep) open_free
-  early_eased ObcStep less = eased_at ObcStep (wide.seats ObcStep) open_free
-  early_eased ScStep less = eased_at ScStep (wide.seats ScStep) open_free
-  early_eased StStep less = eased_at StStep (wide.seats StStep) open_free
-  early_eased Dereserved less = absurd (omega (arith, less))
+  early_eased : (kind : StepKind) → is_dereserved kind ≡ false → IsEased (one kind) (two kind)
+  early_eased Open own = open_eased
+  early_eased Dereserved own = absurd (cc own)
+  early_eased kind own = eased_at kind (wide.seats kind) open_free
 
-  from_last : (kind : StepKind) (other : Person) → IsNotTaken after Dereserved other → step_number kind < 5 → IsNotTaken after kind other
-  from_last Open other free less = tt
-  from_last EwsStep other free less = free Open (omega arith)
-  from_last ObcStep other free less = free Open (omega arith)
-  from_last ScStep other free less = free Open (omega arith)
-  from_last StStep other free less = free Open (omega arith)
-  from_last Dereserved other free less = absurd (omega (arith, less))
+  from_last : (kind : StepKind) (other : Person) → IsNotTaken after Dereserved other → is_dereserved kind ≡ false → IsNotTaken after kind other
+  from_last Open other free own = tt
+  from_last Dereserved other free own = absurd (cc own)
+  from_last kind other free own = free Open refl
 
   last_free : (other : Person) → IsAmong other some → IsNotTaken after Dereserved other → IsNotTaken before Dereserved other
-  last_free other here free kind less was = free kind less (still_at kind (early_eased kind less) other here (from_last kind other free less) was)
+  last_free other here free kind own was = free kind own (still_at kind (early_eased kind own) other here (from_last kind other free own) was)
 
   -- no fewer seats of a step stay empty
   fewer_people : (kind : StepKind) → IsEased (one kind) (two kind) → length (two kind).people ≤ length (one kind).people
@@ -111,19 +118,18 @@ module _ (last : LastStepChooses) (stay : AdmittedStay) (size : ChoiceSize) (ver
       eased.seats (fewer_people kind eased) (size (one kind) (admitted_by before kind) eased.is_step (chosen_at last version seats all before ok ranked choice kind))
       (size (two kind) (admitted_by after kind) eased.later_is_step (chosen_at last version more some after ok' ranked' choice' kind))
 
+  own_empty : (kind : StepKind) → (seats_of seats kind).seats - length (before kind) ≤ (seats_of more kind).seats - length (after kind)
+  own_empty Dereserved = omega arith
+  own_empty kind = more_empty kind (early_eased kind refl)
+
   last_eased : IsEased (one Dereserved) (two Dereserved)
   last_eased = eased_at Dereserved
-      (both_grow (version == 2) ((seats_of seats ObcStep).seats - length before.obc) ((seats_of more ObcStep).seats - length after.obc) ((seats_of seats EwsStep).seats - length before.ews)
-      ((seats_of more EwsStep).seats - length after.ews) (more_empty ObcStep (early_eased ObcStep (omega arith))) (more_empty EwsStep (early_eased EwsStep (omega arith))))
+      (all_grow version (λ kind. (seats_of seats kind).seats) (λ kind. length (before kind)) (λ kind. (seats_of more kind).seats) (λ kind. length (after kind)) category_steps own_empty)
       last_free
 
   pub eased : (kind : StepKind) → IsEased (one kind) (two kind)
-  eased Open = open_eased
-  eased EwsStep = early_eased EwsStep (omega arith)
-  eased ObcStep = early_eased ObcStep (omega arith)
-  eased ScStep = early_eased ScStep (omega arith)
-  eased StStep = early_eased StStep (omega arith)
   eased Dereserved = last_eased
+  eased kind = early_eased kind refl
 
 -- ---- the laws
 
