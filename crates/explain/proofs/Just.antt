@@ -1,30 +1,32 @@
 -- Each step that a reason reports counts against the person.
-use Rattle.std.proofs.Common.{◌≡◌, not, take, Bool, true, false, Option, Some, None, List, [], length, refl, sym, ap, ◌∙◌, subst, if◌then◌else◌}
+use Rattle.std.proofs.Common.{◌≡◌, not, take, Bool, true, false, Option, Some, None, List, [], ◌∷◌, length, refl, sym, ap, ◌∙◌, subst, inl, inr, if◌then◌else◌}
+use Rattle.std.proofs.lemmas.Bool.{cases_Bool, cond-false, cond-true}
 use Rattle.std.specs.Prelude.{option_to_list, slice_get}
 use Rattle.std.specs.Option.{option_and_then, option_map}
 use Rattle.std.specs.List.{AllByRecursion, filter}
+use Rattle.office_base.specs.CategorySteps.{category_steps, own_steps, row_of}
 use Rattle.office_base.specs.Lists.{IsAmong}
 use Rattle.office_base.specs.Merit.{in_merit, with_person}
 use Rattle.office_base.specs.Person.{IsBetter, is_common}
 use Rattle.office_base.specs.Placement.{IsHonoured}
 use Rattle.office_base.specs.StepChoice.{AreRanked, IsStep, IsStepChoice}
-use Rattle.office_base.specs.declared.person.Category.{Category}
-use Rattle.office_base.specs.declared.person.Category.TheVariants.{Gen, Ews, Obc, Sc, St}
+use Rattle.office_base.specs.declared.category_steps.CategoryStep.{CategoryStep}
 use Rattle.office_base.specs.declared.person.ListId.{ListId}
 use Rattle.office_base.specs.declared.person.Person.{Person}
 use Rattle.office_base.specs.declared.step.StepKind.{StepKind}
-use Rattle.office_base.specs.declared.step.StepKind.TheVariants.{Open, Ews as EwsStep, Obc as ObcStep, Sc as ScStep, St as StStep, Dereserved}
+use Rattle.office_base.specs.declared.step.StepKind.TheVariants.{Open, Dereserved}
 use Rattle.placements.specs.Ranks.{without as without_one}
 use Rattle.placements.proofs.Ranks.{ranked_sublist}
+use Rattle.placements.proofs.Sublists.{IsSublist-nil}
 use Rattle.placements.proofs.Zips.{zip_at, zipped}
 use Rattle.placements.proofs.Filters.{filter-sublist, among_filter_from}
 use Rattle.merit_choice.specs.InMerit.{InMeritRanks, RankedPart, WithPersonRanks}
 use Rattle.merit_choice.specs.Laws.{ChoiceSize, OneChoice, SeatsForAll}
 use Rattle.programme_lists.specs.Listing.{ShowsStep, seats_filled}
-use Rattle.programme_lists.specs.Programme.{Admissions, IsProgrammeChoice, admitted_by, is_of, is_same, is_taken, left_over, people_of, step_of, unfilled, without}
+use Rattle.programme_lists.specs.Programme.{Admissions, IsProgrammeChoice, admitted_by, is_of, is_same, is_taken, left_by, left_over, members_by, people_of, step_of, unfilled, without}
 use Rattle.programme_lists.specs.declared.programme.Programme.{Programme}
 use Rattle.programme_lists.specs.declared.programme.StepList.{StepList}
-use Rattle.programme_lists.proofs.Categories.{same_itself}
+use Rattle.programme_lists.proofs.Table.{IsRow, row_facts}
 use Rattle.reasons.specs.declared.reason.StepWhy.{StepWhy}
 use Rattle.seat_matrix.specs.Seats.{AreProgrammeSeats, seats_of}
 use Rattle.seat_matrix.specs.declared.seats.ProgrammeSeats.{ProgrammeSeats}
@@ -33,7 +35,7 @@ use Rattle.office_base.proofs.StepNumbers.{kinds, kind_at}
 use Rattle.office_base.proofs.Lists.{all_joined, at_among}
 use Rattle.placements.proofs.Merit.{not_both_better}
 use Rattle.explain.specs.Just.{ReasonsAreJust, StandsAgainst, WasApplicant, told}
-use Rattle.explain.specs.Reason.{admitted_in, category_step, reason_from, refusal, step_why, why_at}
+use Rattle.explain.specs.Reason.{admitted_in, category_step, reason_from, refusal, step_among, step_why, why_at}
 use Rattle.explain.proofs.Lists.{left_by_take, none_taken, not_listed, stays, tells_worse}
 use Rattle.explain.proofs.Step.{IsRefusedBy, all_taken, each, fewer_honoured}
 
@@ -49,6 +51,25 @@ pub record AreLaws : Type 0 where
 -- a filter of ranked people is ranked
 filter_ranked : (list : ListId) (p : Person → Bool) (people : List Person) → AreRanked list people → AreRanked list (filter p people)
 filter_ranked list p people ranked = ranked_sublist list (filter p people) people ranked (filter-sublist p people)
+
+-- the person is a member of the category of the row
+abbrev IsMember : Option CategoryStep → Person → Type 0
+IsMember None person = ⊥
+IsMember (Some row) person = is_of row.category person ≡ true
+
+-- the step that is found for a category is that of its row
+of_step : (person : Person) (kind : StepKind) → category_step person.category ≡ Some kind → IsMember (row_of kind) person
+of_step person kind found = among category_steps (λ row here. here) found
+  where
+    among : (rows : List CategoryStep) → ((row : CategoryStep) → IsAmong row rows → IsRow row) → step_among rows person.category ≡ Some kind → IsMember (row_of kind) person
+    among [] those found = absurd (cc)
+    among (row ∷ rows) those found = elim (cases_Bool (is_same row.category person.category)) [
+      | inl is ↦
+          let first : Some row.step ≡ Some kind = sym (cond-true _ (Some row.step) (step_among rows person.category) is) ∙ found in
+          let same : row.step ≡ kind = cc in
+          subst (λ k. IsMember (row_of k) person) same (subst (λ one. IsMember one person) (sym (row_facts row (those row (inl refl))).found) is)
+      | inr other ↦ among rows (λ one here. those one (inr here)) (sym (cond-false _ (Some row.step) (step_among rows person.category) other) ∙ found)
+    ]
 
 module _ (laws : AreLaws) (seats : ProgrammeSeats) (programme : Programme) (person : Person) (sound : AreProgrammeSeats seats) (was : WasApplicant seats programme person)
     (refused : admitted_in programme.steps person ≡ None) where
@@ -92,28 +113,36 @@ module _ (laws : AreLaws) (seats : ProgrammeSeats) (programme : Programme) (pers
   without_ranked : (people taken : List Person) → AreRanked seats.list people → AreRanked seats.list (without people taken)
   without_ranked people taken h = filter_ranked seats.list (λ (x : Person). not (is_taken taken x)) people h
 
+  -- those whom some steps left are ranked, and the members of a category
+  left_ranked : (kinds : List StepKind) (people : List Person) → AreRanked seats.list people → AreRanked seats.list (left_by kinds people admissions)
+  left_ranked [] people h = h
+  left_ranked (kind ∷ kinds) people h = left_ranked kinds (without people (admissions kind)) (without_ranked people (admissions kind) h)
+
+  members_ranked : (row : Option CategoryStep) (people : List Person) → AreRanked seats.list people → AreRanked seats.list (members_by row people)
+  members_ranked None people h = ranked_sublist seats.list [] people h (IsSublist-nil people)
+  members_ranked (Some row) people h = filter_ranked seats.list (is_of row.category) people h
+
   people_ranked : (kind : StepKind) → AreRanked seats.list (people_of seats.list applicants admissions kind)
   people_ranked Open = filter_ranked seats.list (is_common seats.list) applicants ranked
-  people_ranked EwsStep = filter_ranked seats.list (is_of Ews) _ (without_ranked applicants admissions.open_step ranked)
-  people_ranked ObcStep = filter_ranked seats.list (is_of Obc) _ (without_ranked applicants admissions.open_step ranked)
-  people_ranked ScStep = filter_ranked seats.list (is_of Sc) _ (without_ranked applicants admissions.open_step ranked)
-  people_ranked StStep = filter_ranked seats.list (is_of St) _ (without_ranked applicants admissions.open_step ranked)
-  people_ranked Dereserved = filter_ranked seats.list (is_common seats.list) _
-      (without_ranked _ admissions.st (without_ranked _ admissions.sc (without_ranked _ admissions.obc (without_ranked _ admissions.ews (without_ranked applicants admissions.open_step ranked)))))
+  people_ranked Dereserved = filter_ranked seats.list (is_common seats.list) _ (left_ranked own_steps applicants ranked)
+  people_ranked kind = members_ranked (row_of kind) _ (without_ranked applicants (admissions Open) ranked)
 
   is_step : (kind : StepKind) → IsStep (step_of seats applicants admissions kind)
   is_step kind = record { list = sound.list; people = people_ranked kind; protections = (sound.steps kind).protections }
 
-  member : (category : Category) → person.category ≡ category → IsAmong person (filter (is_of category) (without applicants admissions.open_step))
-  member category same =
-      among_filter_from (is_of category) person (without applicants admissions.open_step) (stays applicants admissions.open_step person present (not_taken Open))
-      (subst (λ (c : Category). is_same category c ≡ true) (sym same) (same_itself category))
+  -- the person competes for the seats of the own category
+  member : (row : Option CategoryStep) → IsMember row person → IsAmong person (members_by row (without applicants (admissions Open)))
+  member None of = absurd of
+  member (Some row) of =
+      among_filter_from (is_of row.category) person (without applicants (admissions Open)) (stays applicants (admissions Open) person present (not_taken Open)) of
 
   -- a person who is refused is among those left to the de-reserved step
+  left_over_from : (kinds : List StepKind) (people : List Person) → IsAmong person people → IsAmong person (left_by kinds people admissions)
+  left_over_from [] people here = here
+  left_over_from (kind ∷ kinds) people here = left_over_from kinds (without people (admissions kind)) (stays people (admissions kind) person here (not_taken kind))
+
   left : IsAmong person (left_over applicants admissions)
-  left =
-      stays _ admissions.st person (stays _ admissions.sc person (stays _ admissions.obc person (stays _ admissions.ews person
-      (stays applicants admissions.open_step person present (not_taken Open)) (not_taken EwsStep)) (not_taken ObcStep)) (not_taken ScStep)) (not_taken StStep)
+  left = left_over_from own_steps applicants present
 
   -- ---- what counts against the person
 
@@ -178,20 +207,22 @@ module _ (laws : AreLaws) (seats : ProgrammeSeats) (programme : Programme) (pers
   told_where false why h = tt
 
   told_open : is_common seats.list person ≡ true → Told (why_at seats.list programme person Open)
-  told_open common = told_at Open (λ shown at. own_step Open shown at choice.open_step (among_filter_from (is_common seats.list) person applicants present common) refl)
+  told_open common = told_at Open (λ shown at. own_step Open shown at (choice.own Open refl) (among_filter_from (is_common seats.list) person applicants present common) refl)
 
-  told_category : (category : Category) → person.category ≡ category → Told (option_and_then (why_at seats.list programme person) (category_step category))
-  told_category Gen same = tt
-  told_category Ews same = told_at EwsStep (λ shown at. own_step EwsStep shown at choice.ews (member Ews same) refl)
-  told_category Obc same = told_at ObcStep (λ shown at. own_step ObcStep shown at choice.obc (member Obc same) refl)
-  told_category Sc same = told_at ScStep (λ shown at. own_step ScStep shown at choice.sc (member Sc same) refl)
-  told_category St same = told_at StStep (λ shown at. own_step StStep shown at choice.st (member St same) refl)
+  told_step : (kind : StepKind) → IsMember (row_of kind) person → Told (why_at seats.list programme person kind)
+  told_step Open of = absurd of
+  told_step Dereserved of = absurd of
+  told_step kind of = told_at kind (λ shown at. own_step kind shown at (choice.own kind refl) (member (row_of kind) of) refl)
+
+  told_category : (step : Option StepKind) → category_step person.category ≡ step → Told (option_and_then (why_at seats.list programme person) step)
+  told_category None none = tt
+  told_category (Some kind) found = told_step kind (of_step person kind found)
 
   told_refusal : AllByRecursion (StandsAgainst seats programme person) (told (refusal seats.list programme person))
   told_refusal =
       let common = is_common seats.list person in
       all_joined (StandsAgainst seats programme person) _ _
-      (all_joined (StandsAgainst seats programme person) _ _ (told_where common _ told_open) (told_category person.category refl))
+      (all_joined (StandsAgainst seats programme person) _ _ (told_where common _ told_open) (told_category (category_step person.category) refl))
       (told_where common _ (λ holds. told_at Dereserved (λ shown at. dereserved_step shown at holds)))
 
 pub just : AreLaws → ReasonsAreJust

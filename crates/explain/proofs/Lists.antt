@@ -1,18 +1,23 @@
 -- Who is taken, and who is left out of the first of some people.
-use Rattle.std.proofs.Common.{◌≡◌, ℕ, zero, suc, true, false, not, Option, Some, None, List, [], ◌∷◌, length, take, refl, sym, ap, ◌∙◌, inl, inr}
+use Rattle.std.proofs.Common.{◌≡◌, ◌<◌, ◌+◌, ℕ, zero, suc, Bool, true, false, not, Option, Some, None, List, [], ◌∷◌, length, get_or, take, drop, add-one, refl, sym, ap, ◌∙◌, subst, inl, inr}
+use Rattle.std.proofs.Math.Seq.{drop-cons}
 use Rattle.std.specs.Prelude.{IsTrue, ◌↔◌}
 use Rattle.std.specs.List.{AllByRecursion}
 use Rattle.std.proofs.lemmas.Bool.{cases_Bool, cond-false, cond-true, eq-eqb, or_cases, or_left, or_right}
+use Rattle.office_base.specs.CategorySteps.{category_steps}
 use Rattle.office_base.specs.Lists.{AnyByRecursion, IsAmong, Pairwise}
 use Rattle.office_base.specs.Merit.{is_ahead}
 use Rattle.office_base.specs.Person.{IsAhead, IsBetter, number_in}
+use Rattle.office_base.specs.declared.category_steps.CategoryStep.{CategoryStep}
+use Rattle.office_base.specs.declared.person.Category.{Category}
 use Rattle.office_base.specs.declared.person.ListId.{ListId}
 use Rattle.office_base.specs.declared.person.Person.{Person}
 use Rattle.placements.proofs.Merit.{ahead_true}
 use Rattle.placements.proofs.Filters.{among_filter_from}
-use Rattle.programme_lists.specs.Programme.{is_taken, without}
+use Rattle.programme_lists.specs.Programme.{is_same, is_taken, without}
+use Rattle.programme_lists.proofs.Walk.{same_category}
 use Rattle.programme_lists.specs.declared.programme.StepList.{StepList}
-use Rattle.explain.specs.Reason.{admitted_in, has_worse}
+use Rattle.explain.specs.Reason.{admitted_in, category_step, has_worse, step_among}
 use Rattle.explain.proofs.Step.{each, not_ahead_means}
 
 -- ---- who is taken
@@ -78,3 +83,19 @@ left_by_take list (suc n) (one ∷ people) person order among out = elim among [
       let rest = left_by_take list n people person order.1 later (λ there. out (inr there)) in
       (ap suc rest.0, (each (IsBetter list one) person people later order.0, rest.1))
 ]
+
+-- ---- the step of a category
+
+-- a row of another category is passed over
+pub passed_over : (items : List CategoryStep) (index : ℕ) (d : CategoryStep) (category : Category) → items ≡ category_steps → index < length items → ((get_or items index d).category ≡ category → ⊥)
+    → step_among (drop index category_steps) category ≡ category_step category → step_among (drop (index + 1) category_steps) category ≡ category_step category
+passed_over items index d category same less apart left =
+    let row = get_or items index d in
+    let begins : drop index category_steps ≡ row ∷ drop (index + 1) category_steps = subst (λ (rows : List CategoryStep). drop index rows ≡ row ∷ drop (index + 1) rows) same
+    (rw add-one (drop-cons items index d less)) in
+    let first : step_among (row ∷ drop (index + 1) category_steps) category ≡ step_among (drop (index + 1) category_steps) category = cond-false _ _ _ (other (is_same row.category category) refl) in
+    sym (ap (λ (rows : List CategoryStep). step_among rows category) begins ∙ first) ∙ left
+  where
+    other : (found : Bool) → is_same (get_or items index d).category category ≡ found → is_same (get_or items index d).category category ≡ false
+    other true is = absurd (apart (same_category (get_or items index d).category category is))
+    other false is = is

@@ -1,16 +1,17 @@
 -- The reason of one person at one programme, from the programme's six lists.
 use Rattle.std.specs.Prelude.{Bool, false, List, [], ◌∷◌, Option, Some, None, ◌||◌, if◌then◌else◌, slice_get}
 use Rattle.std.specs.Option.{option_and_then, option_map}
+use Rattle.office_base.specs.CategorySteps.{category_steps}
 use Rattle.office_base.specs.Merit.{is_better}
 use Rattle.office_base.specs.Person.{is_common}
+use Rattle.office_base.specs.declared.category_steps.CategoryStep.{CategoryStep}
 use Rattle.office_base.specs.declared.person.Category.{Category}
-use Rattle.office_base.specs.declared.person.Category.TheVariants.{Gen, Ews, Obc, Sc, St}
 use Rattle.office_base.specs.declared.person.ListId.{ListId}
 use Rattle.office_base.specs.declared.person.Person.{Person}
 use Rattle.office_base.specs.declared.step.StepKind.{StepKind}
-use Rattle.office_base.specs.declared.step.StepKind.TheVariants.{Open, Ews as EwsStep, Obc as ObcStep, Sc as ScStep, St as StStep, Dereserved}
+use Rattle.office_base.specs.declared.step.StepKind.TheVariants.{Open, Dereserved}
 use Rattle.office_base.specs.StepNumbers.{step_number}
-use Rattle.programme_lists.specs.Programme.{is_taken}
+use Rattle.programme_lists.specs.Programme.{is_same, is_taken}
 use Rattle.programme_lists.specs.declared.programme.Programme.{Programme}
 use Rattle.programme_lists.specs.declared.programme.StepList.{StepList}
 use Rattle.reasons.specs.declared.reason.Reason.{Reason}
@@ -36,13 +37,13 @@ step_why list person shown = record { kind = shown.kind; seats = shown.seats; wo
 abbrev pub why_at : ListId → Programme → Person → StepKind → Option StepWhy
 why_at list programme person kind = option_map (step_why list person) (slice_get programme.steps (step_number kind))
 
--- the step of a category
+-- the step of a category, if it has one
+abbrev pub step_among : List CategoryStep → Category → Option StepKind
+step_among [] category = None
+step_among (row ∷ rows) category = if is_same row.category category then Some row.step else step_among rows category
+
 abbrev pub category_step : Category → Option StepKind
-category_step Gen = None
-category_step Ews = Some EwsStep
-category_step Obc = Some ObcStep
-category_step Sc = Some ScStep
-category_step St = Some StStep
+category_step category = step_among category_steps category
 
 -- what counted against the person at the step of the person's own category, if it has one
 abbrev pub at_category : ListId → Programme → Person → Option StepWhy

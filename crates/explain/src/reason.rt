@@ -8,7 +8,7 @@ ghost use Rattle.seat_matrix.specs.Matrix.{list_in};
 ghost use Rattle.explain.specs.Reason.{admitted_in, at_category, category_step, has_worse, reason_of, refusal, why_at};
 
 use dereserve::is_common;
-use office_base::{Category, ListId, Person, ProgId, StepKind, step_number};
+use office_base::{CATEGORY_STEPS, Category, ListId, Person, ProgId, StepKind, step_number};
 use programme_lists::{Programme, StepList};
 use reasons::{Reason, StepWhy};
 use seat_matrix::Matrix;
@@ -71,17 +71,16 @@ fn why_at(list: ListId, programme: &Programme, person: &Person, kind: StepKind) 
     })
 }
 
-/// The step of a category.
+/// Returns the step of a category, if it has one.
 fn category_step(category: Category) -> Option<StepKind>
     ensures { result ≡ category_step category }
 {
-    match category {
-        Category::Gen => None,
-        Category::Ews => Some(StepKind::Ews),
-        Category::Obc => Some(StepKind::Obc),
-        Category::Sc => Some(StepKind::Sc),
-        Category::St => Some(StepKind::St),
+    for row in CATEGORY_STEPS {
+        if row.category == category {
+            return Some(row.step);
+        }
     }
+    None
 }
 
 /// Whether somebody admitted is worse in merit than the person.
