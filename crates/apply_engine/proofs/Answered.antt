@@ -15,14 +15,15 @@ use Rattle.allocations.specs.Rule.{Admits, Refuses}
 use Rattle.allocations.proofs.Course.{get_set_same, goes_on}
 use Rattle.allocations.proofs.Settled.{not_held, settled_displaced, settled_refused, settled_taken}
 use Rattle.allocations.proofs.Those.{of_those, same_place}
-use Rattle.open_then_category.specs.State.{IsAnswered, ProgrammeKept}
+use Rattle.open_then_category.specs.State.{IsAnswered, ProgrammeKept, admissions_of}
 use Rattle.programme_lists.specs.Chosen.{AreApplicants, ChoosesFrom, everybody}
 use Rattle.rank_lists.specs.Register.{row_of}
 use Rattle.rounds.specs.Rule.{MayApplyIn, rule_of}
 use Rattle.seat_matrix.specs.Matrix.{seats_in}
 use Rattle.seat_matrix.specs.declared.seats.ProgrammeSeats.{ProgrammeSeats}
 use Rattle.apply_engine.specs.Engine.{IsGoing, IsSet, Leaves, Setting, seekers_in}
-use Rattle.apply_engine.proofs.Offers.{Facts, admitted_is_there, all_of, all_show, facts, goes_on_choice, held_tried, ids_apart, new_to_held, refused_shows, rule_shows, shown_admits, there_is_admitted, within}
+use Rattle.round_laws.proofs.Everybody.{admitted_is_there, there_is_admitted}
+use Rattle.apply_engine.proofs.Offers.{Facts, all_of, all_show, facts, goes_on_choice, held_tried, ids_apart, new_to_held, refused_shows, rule_shows, shown_admits, within}
 use Rattle.round_laws.proofs.People.{row_at}
 use Rattle.apply_engine.proofs.Setting.{chooses_well, seeker_at}
 
@@ -47,41 +48,41 @@ facts_of set next states cur p n s old o =
 
 -- the choice that the state shows before the offer
 before_choice : (set : Setting) (next : List ℕ) (states : List ProgrammeKept) (cur p n : ℕ) (s : Seeker) (old : ProgrammeKept) → Offer set next states cur p n s old
-    → ChoosesFrom set.version (seats_in set.table p) (tried p (seekers_in set) next) old.admissions
+    → ChoosesFrom set.version (seats_in set.table p) (tried p (seekers_in set) next) (admissions_of old)
 before_choice set next states cur p n s old o = (o.going.shows.each p old o.at).choice
 
 -- The seeker may be offered to the programme.
 pub may_be_offered : (set : Setting) (next : List ℕ) (states : List ProgrammeKept) (cur p n : ℕ) (s : Seeker) (old : ProgrammeKept) → Offer set next states cur p n s old
-    → AreApplicants old.seats.list (s.person ∷ everybody old.admissions)
+    → AreApplicants old.seats.list (s.person ∷ everybody (admissions_of old))
 may_be_offered set next states cur p n s old o =
     let f = facts_of set next states cur p n s old o in
     let choice = before_choice set next states cur p n s old o in
-    let new = new_to_held set.version set.table (seekers_in set) next cur p n s old.admissions o.set_is.laws o.set_is.seats o.try.below f choice in
-    let once = o.set_is.laws.once set.version (seats_in set.table p) (tried p (seekers_in set) next) old.admissions (o.set_is.seats.sound p o.try.below) f.may choice in
+    let new = new_to_held set.version set.table (seekers_in set) next cur p n s (admissions_of old) o.set_is.laws o.set_is.seats o.try.below f choice in
+    let once = o.set_is.laws.once set.version (seats_in set.table p) (tried p (seekers_in set) next) (admissions_of old) (o.set_is.seats.sound p o.try.below) f.may choice in
     let after = tried p (seekers_in set) (slice_set next cur (n + 1)) in
-    let among : AreAmong (s.person ∷ everybody old.admissions) after = (
+    let among : AreAmong (s.person ∷ everybody (admissions_of old)) after = (
       f.with_one.there,
-      all_of (λ x. IsAmong x after) (everybody old.admissions)
-          (λ other there. within other _ _ f.with_one.within (held_tried set.version set.table p _ old.admissions other o.set_is.laws o.set_is.seats o.try.below f.may choice there)),
+      all_of (λ x. IsAmong x after) (everybody (admissions_of old))
+          (λ other there. within other _ _ f.with_one.within (held_tried set.version set.table p _ (admissions_of old) other o.set_is.laws o.set_is.seats o.try.below f.may choice there)),
     ) in
-    let ranked = o.set_is.laws.part (seats_in set.table p).list (s.person ∷ everybody old.admissions) after (new.distinct, once.0) f.may_after among in
-    subst (λ (seats : ProgrammeSeats). AreApplicants seats.list (s.person ∷ everybody old.admissions)) (sym (o.going.shows.each p old o.at).seats_are) ranked
+    let ranked = o.set_is.laws.part (seats_in set.table p).list (s.person ∷ everybody (admissions_of old)) after (new.distinct, once.0) f.may_after among in
+    subst (λ (seats : ProgrammeSeats). AreApplicants seats.list (s.person ∷ everybody (admissions_of old))) (sym (o.going.shows.each p old o.at).seats_are) ranked
 
 -- what the programme gives back
 pub record Given (set : Setting) (next : List ℕ) (states : List ProgrammeKept) (cur p n : ℕ) (s : Seeker) (old new : ProgrammeKept) (result : Offered) : Type 0 where
   pub offer : Offer set next states cur p n s old
-  pub stays : new ≡ record old { admissions = new.admissions }
-  pub choice : ChoosesFrom old.version old.seats (s.person ∷ everybody old.admissions) new.admissions
+  pub stays : new ≡ record old { held = new.held }
+  pub choice : ChoosesFrom old.version old.seats (s.person ∷ everybody (admissions_of old)) (admissions_of new)
   pub answer : IsAnswered old s.person result new
 
 after_choice : (set : Setting) (next : List ℕ) (states : List ProgrammeKept) (cur p n : ℕ) (s : Seeker) (old new : ProgrammeKept) (result : Offered)
-    → Given set next states cur p n s old new result → ChoosesFrom set.version (seats_in set.table p) (tried p (seekers_in set) (slice_set next cur (n + 1))) new.admissions
+    → Given set next states cur p n s old new result → ChoosesFrom set.version (seats_in set.table p) (tried p (seekers_in set) (slice_set next cur (n + 1))) (admissions_of new)
 after_choice set next states cur p n s old new result g =
     let o = g.offer in
     let shown = o.going.shows.each p old o.at in
-    let first = subst (λ seats. ChoosesFrom old.version seats (s.person ∷ everybody old.admissions) new.admissions) shown.seats_are g.choice in
-    let second = subst (λ v. ChoosesFrom v (seats_in set.table p) (s.person ∷ everybody old.admissions) new.admissions) shown.version_is first in
-    goes_on_choice set.version set.table (seekers_in set) next cur p n s old.admissions new.admissions o.set_is.laws o.set_is.seats o.try.below
+    let first = subst (λ seats. ChoosesFrom old.version seats (s.person ∷ everybody (admissions_of old)) (admissions_of new)) shown.seats_are g.choice in
+    let second = subst (λ v. ChoosesFrom v (seats_in set.table p) (s.person ∷ everybody (admissions_of old)) (admissions_of new)) shown.version_is first in
+    goes_on_choice set.version set.table (seekers_in set) next cur p n s (admissions_of old) (admissions_of new) o.set_is.laws o.set_is.seats o.try.below
     (facts_of set next states cur p n s old o) shown.choice second
 
 -- The applications go on.
@@ -101,30 +102,30 @@ going_after set next states cur p n s old new result g =
 
 -- whom the programme admitted before is one of those held
 was_held : (set : Setting) (next : List ℕ) (states : List ProgrammeKept) (cur p n : ℕ) (s : Seeker) (old : ProgrammeKept) (person : Person) → Offer set next states cur p n s old
-    → Admits (rule_of set.version set.table) p (tried p (seekers_in set) next) person → IsAmong person (everybody old.admissions)
+    → Admits (rule_of set.version set.table) p (tried p (seekers_in set) next) person → IsAmong person (everybody (admissions_of old))
 was_held set next states cur p n s old person o admitted =
     let f = facts_of set next states cur p n s old o in
-    admitted_is_there old.admissions person (
+    admitted_is_there (admissions_of old) person (
       admitted.0,
-      rule_shows set.version set.table p (tried p (seekers_in set) next) old.admissions person admitted.0 o.set_is.laws o.set_is.seats o.try.below f.may (before_choice set next states cur p n s old o) admitted.1,
+      rule_shows set.version set.table p (tried p (seekers_in set) next) (admissions_of old) person admitted.0 o.set_is.laws o.set_is.seats o.try.below f.may (before_choice set next states cur p n s old o) admitted.1,
     )
 
 -- a person who is held after the offer is admitted
 is_admitted : (set : Setting) (next : List ℕ) (states : List ProgrammeKept) (cur p n : ℕ) (s : Seeker) (old new : ProgrammeKept) (result : Offered) (person : Person)
-    → Given set next states cur p n s old new result → IsAmong person (everybody new.admissions)
+    → Given set next states cur p n s old new result → IsAmong person (everybody (admissions_of new))
     → Admits (rule_of set.version set.table) p (tried p (seekers_in set) (slice_set next cur (n + 1))) person
 is_admitted set next states cur p n s old new result person g there =
-    shown_admits set.version set.table p (tried p (seekers_in set) (slice_set next cur (n + 1))) new.admissions person (after_choice set next states cur p n s old new result g) (there_is_admitted new.admissions person there)
+    shown_admits set.version set.table p (tried p (seekers_in set) (slice_set next cur (n + 1))) (admissions_of new) person (after_choice set next states cur p n s old new result g) (there_is_admitted (admissions_of new) person there)
 
 -- a person who is not held after the offer is refused
 is_refused : (set : Setting) (next : List ℕ) (states : List ProgrammeKept) (cur p n : ℕ) (s : Seeker) (old new : ProgrammeKept) (result : Offered) (person : Person)
-    → Given set next states cur p n s old new result → (IsAmong person (everybody new.admissions) → ⊥)
+    → Given set next states cur p n s old new result → (IsAmong person (everybody (admissions_of new)) → ⊥)
     → Refuses (rule_of set.version set.table) p (tried p (seekers_in set) (slice_set next cur (n + 1))) person
 is_refused set next states cur p n s old new result person g apart =
     let o = g.offer in
     let f = facts_of set next states cur p n s old o in
-    refused_shows set.version set.table p (tried p (seekers_in set) (slice_set next cur (n + 1))) new.admissions person o.set_is.laws o.set_is.seats o.try.below f.may_after (after_choice set next states cur p n s old new result g)
-    (λ kind there. apart (admitted_is_there new.admissions person (kind, there)))
+    refused_shows set.version set.table p (tried p (seekers_in set) (slice_set next cur (n + 1))) (admissions_of new) person o.set_is.laws o.set_is.seats o.try.below f.may_after (after_choice set next states cur p n s old new result g)
+    (λ kind there. apart (admitted_is_there (admissions_of new) person (kind, there)))
 
 -- Nobody left: all are settled.
 pub leaves_taken : (set : Setting) (next : List ℕ) (states : List ProgrammeKept) (cur p n : ℕ) (s : Seeker) (old new : ProgrammeKept)
@@ -141,10 +142,10 @@ leaves_refused set next states cur p n s old new g =
     let o = g.offer in
     let f = facts_of set next states cur p n s old o in
     let after = underway_after set next states cur p n s old o in
-    let same : everybody new.admissions ≡ everybody old.admissions = ap (λ (z : ProgrammeKept). everybody z.admissions) g.answer in
+    let same : everybody (admissions_of new) ≡ everybody (admissions_of old) = ap (λ (z : ProgrammeKept). everybody (admissions_of z)) g.answer in
     let at' = get_set_same next cur (n + 1) n o.try.at in
-    let apart : IsAmong s.person (everybody new.admissions) → ⊥ = λ there.
-    f.with_one.fresh (held_tried set.version set.table p _ old.admissions s.person o.set_is.laws o.set_is.seats o.try.below f.may (before_choice set next states cur p n s old o)
+    let apart : IsAmong s.person (everybody (admissions_of new)) → ⊥ = λ there.
+    f.with_one.fresh (held_tried set.version set.table p _ (admissions_of old) s.person o.set_is.laws o.set_is.seats o.try.below f.may (before_choice set next states cur p n s old o)
     (subst (λ people. IsAmong s.person people) same there)) in
     let refused = is_refused set next states cur p n s old new Refused s.person g apart in
     record {
@@ -177,9 +178,9 @@ leaves_displaced set next states cur p n s old new cand g =
     let seekers = seekers_in set in
     let f = facts_of set next states cur p n s old o in
     let after = underway_after set next states cur p n s old o in
-    let one = any_all (λ (one : Person). one.id ≡ cand) (λ one. IsAmong one (everybody old.admissions)) (everybody old.admissions) g.answer.0 (among_itself (everybody old.admissions)) in
+    let one = any_all (λ (one : Person). one.id ≡ cand) (λ one. IsAmong one (everybody (admissions_of old))) (everybody (admissions_of old)) g.answer.0 (among_itself (everybody (admissions_of old))) in
     let gone : Person = one.0 in
-    let tried_it = held_tried set.version set.table p _ old.admissions gone o.set_is.laws o.set_is.seats o.try.below f.may (before_choice set next states cur p n s old o) one.2 in
+    let tried_it = held_tried set.version set.table p _ (admissions_of old) gone o.set_is.laws o.set_is.seats o.try.below f.may (before_choice set next states cur p n s old o) one.2 in
     let found = of_those (λ s n. nat_lt (place_of s.list p) n) seekers next gone tried_it in
     let out : ℕ = found.place in
     let t : Seeker = found.s in
@@ -193,7 +194,7 @@ leaves_displaced set next states cur p n s old new cand g =
     let at' : slice_get (slice_set next cur (n + 1)) out ≡ Some found.value = get_set_other next cur out (n + 1) elsewhere ∙ found.at in
     let admitted : Admits rule p (tried p seekers next) t.person =
     subst (λ z. Admits rule p (tried p seekers next) z) found.person_is
-    (shown_admits set.version set.table p (tried p seekers next) old.admissions gone (before_choice set next states cur p n s old o) (there_is_admitted old.admissions gone one.2)) in
+    (shown_admits set.version set.table p (tried p seekers next) (admissions_of old) gone (before_choice set next states cur p n s old o) (there_is_admitted (admissions_of old) gone one.2)) in
     let last = o.going.underway.last p out found.value t admitted.0 o.try.below found.there found.at admitted.1 in
     let refused : Refuses rule p (tried p seekers (slice_set next cur (n + 1))) t.person =
     subst (λ z. Refuses rule p (tried p seekers (slice_set next cur (n + 1))) z) found.person_is

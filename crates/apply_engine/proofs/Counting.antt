@@ -8,9 +8,6 @@ use Rattle.allocations.specs.Market.{Seeker}
 use Rattle.allocations.specs.Rule.{Rule}
 use Rattle.apply_engine.specs.Applications.{applications, own_applications}
 
-sum_more : (n : ℕ) (ns : List ℕ) → sum (n ∷ ns) ≡ n + sum ns
-sum_more n ns = sum_by-cons (λ x. x) n ns
-
 -- what was tried and what is left to try are all places
 pub tried_and_left : (seekers : List Seeker) (next : List ℕ) → length next ≡ length seekers → ((i n : ℕ) (s : Seeker) → slice_get seekers i ≡ Some s → slice_get next i ≡ Some n → n ≤ length s.list)
     → sum next + places_left seekers next ≡ places seekers
@@ -19,7 +16,7 @@ tried_and_left [] (n ∷ next) full within = absurd (omega (arith, full))
 tried_and_left (s ∷ seekers) [] full within = absurd (omega (arith, full))
 tried_and_left (s ∷ seekers) (n ∷ next) full within =
     let first = within 0 n s refl refl in
-    let more = sum_more n next in
+    let more = sum_by-cons (λ x. x) n next in
     let rest = tried_and_left seekers next (omega (arith, full)) (λ i. within (suc i)) in
     omega (arith, first, rest, more)
 
@@ -33,7 +30,7 @@ tried_down (s ∷ seekers) [] seats full full' each = absurd (omega (arith, full
 tried_down (s ∷ seekers) (n ∷ next) [] full full' each = absurd (omega (arith, full'))
 tried_down (s ∷ seekers) (n ∷ next) (seat ∷ seats) full full' each =
     let first = each 0 n s seat refl refl refl in
-    let more = sum_more n next in
+    let more = sum_by-cons (λ x. x) n next in
     let rest = tried_down seekers next seats (omega (arith, full)) (omega (arith, full')) (λ i. each (suc i)) in
     omega (arith, first, rest, more)
 

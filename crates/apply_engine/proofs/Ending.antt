@@ -1,5 +1,5 @@
 -- The applications begin with nobody admitted, and end.
-use Rattle.std.proofs.Common.{◌≡◌, ◌<◌, ◌≤◌, ◌+◌, ◌++◌, inl, ℕ, List, [], ◌∷◌, Some, length, arith, refl, sym, ap, ◌∙◌, subst, nat_lt}
+use Rattle.std.proofs.Common.{◌≡◌, ◌<◌, ◌≤◌, ◌+◌, inl, ℕ, List, [], ◌∷◌, Some, length, arith, refl, sym, ap, ◌∙◌, subst, nat_lt}
 use Rattle.std.specs.Prelude.{slice_get, replicate, sum}
 use Rattle.std.proofs.lemmas.Bool.{ltb-true}
 use Rattle.std.proofs.lemmas.Option.{slice_get_within}
@@ -12,11 +12,13 @@ use Rattle.allocations.specs.Course.{places, places_left, tried}
 use Rattle.allocations.proofs.Course.{begins, left_at_first, tried_may}
 use Rattle.allocations.proofs.Those.{of_those}
 use Rattle.allocations.specs.Market.{Seeker, place_of}
-use Rattle.open_then_category.specs.State.{ProgrammeKept, nobody}
+use Rattle.open_then_category.specs.State.{ProgrammeKept, admissions_of, nobody}
+use Rattle.open_then_category.proofs.Handed.{nobody_is}
 use Rattle.open_then_category.specs.declared.kept_lists.Tried.{Tried}
 use Rattle.programme_lists.specs.Chosen.{ChoosesFrom, everybody}
 use Rattle.programme_lists.specs.Programme.{Admissions}
 use Rattle.rounds.specs.Rule.{MayApplyIn, rule_of}
+use Rattle.round_laws.proofs.Everybody.{admitted_is_there}
 use Rattle.seat_matrix.specs.Matrix.{SeatTable, seats_in}
 use Rattle.allocations.proofs.Best.{zeros_at}
 use Rattle.apply_engine.specs.Engine.{AreBegun, AreSettledBefore, AreTallied, AreUntried, Enters, HasApplied, HasRun, IsSet, IsSettledTo, Setting, seekers_in}
@@ -29,28 +31,9 @@ none_of : {X : Type 0} (xs : List X) → ((x : X) → IsAmong x xs → ⊥) → 
 none_of [] h = refl
 none_of (x ∷ xs) h = absurd (h x (inl refl))
 
-split_none : {X : Type 0} (xs ys : List X) → xs ++ ys ≡ [] → (xs ≡ []) × (ys ≡ [])
-split_none [] ys e = (refl, e)
-split_none (x ∷ xs) ys e = absurd (cc)
-
 -- where everybody admitted is nobody, no step admits anyone
 is_nobody : (admissions : Admissions) → everybody admissions ≡ [] → admissions ≡ nobody
-is_nobody admissions e =
-    let a = split_none (admissions.open_step ++ admissions.ews ++ admissions.obc ++ admissions.sc ++ admissions.st) admissions.dereserved e in
-    let b = split_none (admissions.open_step ++ admissions.ews ++ admissions.obc ++ admissions.sc) admissions.st a.0 in
-    let d = split_none (admissions.open_step ++ admissions.ews ++ admissions.obc) admissions.sc b.0 in
-    let f = split_none (admissions.open_step ++ admissions.ews) admissions.obc d.0 in
-    let h = split_none admissions.open_step admissions.ews f.0 in
-    made admissions nobody h.0 h.1 f.1 d.1 b.1 a.1
-  where
-    made : (x y : Admissions) → x.open_step ≡ y.open_step → x.ews ≡ y.ews → x.obc ≡ y.obc → x.sc ≡ y.sc → x.st ≡ y.st → x.dereserved ≡ y.dereserved → x ≡ y
-    made x y e0 e1 e2 e3 e4 e5 =
-        ap (λ l. let a : Admissions = record x { open_step = l } in a) e0
-        ∙ (ap (λ l. let a : Admissions = record { open_step = y.open_step; ews = l; obc = x.obc; sc = x.sc; st = x.st; dereserved = x.dereserved } in a) e1
-        ∙ (ap (λ l. let a : Admissions = record { open_step = y.open_step; ews = y.ews; obc = l; sc = x.sc; st = x.st; dereserved = x.dereserved } in a) e2
-        ∙ (ap (λ l. let a : Admissions = record { open_step = y.open_step; ews = y.ews; obc = y.obc; sc = l; st = x.st; dereserved = x.dereserved } in a) e3
-        ∙ (ap (λ l. let a : Admissions = record { open_step = y.open_step; ews = y.ews; obc = y.obc; sc = y.sc; st = l; dereserved = x.dereserved } in a) e4
-        ∙ ap (λ l. let a : Admissions = record { open_step = y.open_step; ews = y.ews; obc = y.obc; sc = y.sc; st = y.st; dereserved = l } in a) e5))))
+is_nobody admissions e = λ i kind. none_of (admissions kind) (λ x there. subst (IsAmong x) e (admitted_is_there admissions x (kind, there))) i
 
 -- nobody tried anything yet
 none_tried : (p : ℕ) (seekers : List Seeker) (next : List ℕ) → ((i n : ℕ) → slice_get next i ≡ Some n → n ≡ 0) → tried p seekers next ≡ []
@@ -99,8 +82,8 @@ enters over version table people lists next states e begun zeros =
               record {
                 version_is = ap (λ (z : ProgrammeKept). z.version) is ∙ sym version_is;
                 seats_are = ap (λ (z : ProgrammeKept). z.seats) is ∙ ap (λ t. seats_in t p) (sym table_is);
-                choice = subst (λ people. ChoosesFrom over.version (seats_in over.table p) people state.admissions) (sym nobody_tried)
-                    (subst (λ a. ChoosesFrom over.version (seats_in over.table p) [] a) (sym (ap (λ (z : ProgrammeKept). z.admissions) is)) choice);
+                choice = subst (λ people. ChoosesFrom over.version (seats_in over.table p) people (admissions_of state)) (sym nobody_tried)
+                    (subst (λ a. ChoosesFrom over.version (seats_in over.table p) [] a) (nobody_is ∙ sym (ap admissions_of is)) choice);
               };
         };
       };

@@ -13,7 +13,7 @@ use Rattle.allocations.specs.Market.{Seeker, applicants, place_of, seat_at}
 use Rattle.allocations.proofs.Course.{ends_best, tried_may, settled_applicants}
 use Rattle.allocations.proofs.Places.{one_place}
 use Rattle.allocations.proofs.Those.{of_those, same_place}
-use Rattle.open_then_category.specs.State.{ProgrammeKept}
+use Rattle.open_then_category.specs.State.{ProgrammeKept, admissions_of}
 use Rattle.open_then_category.specs.Tried.{HaveCome, counted}
 use Rattle.open_then_category.specs.declared.kept_lists.Tried.{Tried}
 use Rattle.programme_lists.specs.Chosen.{AreApplicants, ChoosesFrom, ShowsFrom}
@@ -31,8 +31,9 @@ use Rattle.seeks.specs.declared.seek.Seek.{Seek}
 use Rattle.apply_engine.specs.Applications.{applications}
 use Rattle.apply_engine.specs.Engine.{HasEnded, HasRun, IsMade, IsSet, Setting, seekers_in}
 use Rattle.apply_engine.specs.Made.{AreGiven, AreInOrder, AreListed, AreShown, admitted_of, shown}
+use Rattle.round_laws.proofs.Everybody.{admitted_is_there}
 use Rattle.apply_engine.proofs.Counting.{settled_applications}
-use Rattle.apply_engine.proofs.Offers.{admitted_is_there, held_tried, rule_shows}
+use Rattle.apply_engine.proofs.Offers.{held_tried, rule_shows}
 use Rattle.apply_engine.proofs.Setting.{chooses_well, length_with, seeker_at}
 
 -- what the lists of a programme show
@@ -208,7 +209,7 @@ have_come over next states tallies p state tally run at at' =
     let seats = sym shows.seats_are in
     record {
       may = subst (λ (s : ProgrammeSeats). AreApplicants s.list people) seats may;
-      choice = subst (λ (s : ProgrammeSeats). ChoosesFrom state.version s people state.admissions) seats (subst (λ v. ChoosesFrom v (seats_in over.table p) people state.admissions) (sym shows.version_is) shows.choice);
+      choice = subst (λ (s : ProgrammeSeats). ChoosesFrom state.version s people (admissions_of state)) seats (subst (λ v. ChoosesFrom v (seats_in over.table p) people (admissions_of state)) (sym shows.version_is) shows.choice);
       counts = run.tallied.each p tally at' ∙ ap (λ (s : ProgrammeSeats). counted s.list people) seats;
     }
 

@@ -11,7 +11,7 @@ use Rattle.merit_choice.specs.declared.state.Offered.TheVariants.{Displaced}
 use Rattle.allocations.specs.Course.{IsHeld, MayTry, places_left}
 use Rattle.allocations.specs.Market.{Seeker, place_of}
 use Rattle.allocations.proofs.Course.{left_falls}
-use Rattle.open_then_category.specs.State.{IsAnswered, ProgrammeKept}
+use Rattle.open_then_category.specs.State.{IsAnswered, ProgrammeKept, admissions_of}
 use Rattle.programme_lists.specs.Chosen.{AreApplicants, ChoosesFrom, everybody}
 use Rattle.rank_lists.specs.Register.{row_of}
 use Rattle.rounds.specs.Rule.{rule_of}
@@ -89,19 +89,19 @@ same_person over people lists next states cur p d r m =
 
 pub offered : (over : Setting) (people : List Person) (lists : List (List ProgId)) (next : List ℕ) (states : List ProgrammeKept) (cur p : ℕ) (old : ProgrammeKept) (person : Person)
     → MayPropose over people lists next states cur → (m : Making over next states cur p) → slice_get states p ≡ Some old → person ≡ m.s.person
-    → AreApplicants old.seats.list (person ∷ everybody old.admissions)
+    → AreApplicants old.seats.list (person ∷ everybody (admissions_of old))
 offered over people lists next states cur p old person r m at same =
-    subst (λ z. AreApplicants old.seats.list (z ∷ everybody old.admissions)) (sym same)
+    subst (λ z. AreApplicants old.seats.list (z ∷ everybody (admissions_of old))) (sym same)
     (may_be_offered over next states cur p (slice_index next cur) m.s old (offer_of over people lists next states cur p old r m at))
 
 pub given : (over : Setting) (people : List Person) (lists : List (List ProgId)) (next : List ℕ) (states : List ProgrammeKept) (cur p : ℕ) (old new : ProgrammeKept) (person : Person) (result : Offered)
     → MayPropose over people lists next states cur → (m : Making over next states cur p) → slice_get states p ≡ Some old → person ≡ m.s.person
-    → new ≡ record old { admissions = new.admissions } → ChoosesFrom old.version old.seats (person ∷ everybody old.admissions) new.admissions → IsAnswered old person result new
+    → new ≡ record old { held = new.held } → ChoosesFrom old.version old.seats (person ∷ everybody (admissions_of old)) (admissions_of new) → IsAnswered old person result new
     → Given over next states cur p (slice_index next cur) m.s old new result
 given over people lists next states cur p old new person result r m at same stays choice answer = record {
   offer = offer_of over people lists next states cur p old r m at;
   stays = stays;
-  choice = subst (λ z. ChoosesFrom old.version old.seats (z ∷ everybody old.admissions) new.admissions) same choice;
+  choice = subst (λ z. ChoosesFrom old.version old.seats (z ∷ everybody (admissions_of old)) (admissions_of new)) same choice;
   answer = subst (λ z. IsAnswered old z result new) same answer;
 }
 

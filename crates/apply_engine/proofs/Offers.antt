@@ -1,5 +1,5 @@
 -- One offer: the states show the choices from all who tried, before and after it.
-use Rattle.std.proofs.Common.{◌≡◌, ◌≢◌, ◌<◌, ◌+◌, inl, inr, ℕ, List, [], ◌∷◌, ◌++◌, Some, length, slice_set, refl, sym, ap, ◌∙◌, subst, length-set}
+use Rattle.std.proofs.Common.{◌≡◌, ◌≢◌, ◌<◌, ◌+◌, inl, inr, ℕ, List, [], ◌∷◌, Some, length, slice_set, refl, sym, ap, ◌∙◌, subst, length-set}
 use Rattle.std.specs.Prelude.{slice_get, IsSome}
 use Rattle.std.specs.List.{AllByRecursion}
 use Rattle.std.proofs.lemmas.Bool.Decides.{eqb_tells}
@@ -9,58 +9,20 @@ use Rattle.office_base.specs.Person.{IsTraitSet, number_in}
 use Rattle.office_base.specs.declared.person.ListId.{ListId}
 use Rattle.office_base.specs.declared.person.Person.{Person}
 use Rattle.office_base.specs.declared.step.StepKind.{StepKind}
-use Rattle.office_base.specs.declared.step.StepKind.TheVariants.{Open, Ews, Obc, Sc, St, Dereserved}
-use Rattle.office_base.proofs.Lists.{get_set_other, among_left, among_right, all_among}
-use Rattle.placements.proofs.Ranks.{any_among, any_all, any_append, among_sublist}
+use Rattle.office_base.proofs.Lists.{get_set_other, all_among}
+use Rattle.placements.proofs.Ranks.{any_among, any_all, among_sublist}
 use Rattle.allocations.specs.Course.{IsUnderway, IsWith as IsWithOne, MayTry, tried}
 use Rattle.allocations.specs.Fair.{IsMarket}
 use Rattle.allocations.specs.Market.{Seeker}
 use Rattle.allocations.specs.Rule.{Admits, ChoosesWell, Refuses}
 use Rattle.allocations.proofs.Course.{tried_may, tried_with, get_set_same}
 use Rattle.allocations.proofs.Settled.{other_programmes}
-use Rattle.open_then_category.specs.State.{ProgrammeKept}
+use Rattle.open_then_category.specs.State.{ProgrammeKept, admissions_of}
 use Rattle.programme_lists.specs.Chosen.{ChoosesFrom, IsAdmitted, IsRefused, everybody}
 use Rattle.programme_lists.specs.Programme.{Admissions, admitted_by}
 use Rattle.rounds.specs.Rule.{MayApplyIn, rule_of}
 use Rattle.seat_matrix.specs.Matrix.{AreSeats, SeatTable, list_in, seats_in}
 use Rattle.apply_engine.specs.Engine.{AllShow, AreLawful, Show}
-
--- ---- everybody
-
--- a person whom a step admits is one of all who are admitted
-pub admitted_is_there : (admissions : Admissions) (person : Person) → IsAdmitted admissions person → IsAmong person (everybody admissions)
-admitted_is_there admissions person (Open, h) =
-    among_left person _ admissions.dereserved (among_left person _ admissions.st (among_left person _ admissions.sc (among_left person _ admissions.obc (among_left person admissions.open_step admissions.ews h))))
-admitted_is_there admissions person (Ews, h) =
-    among_left person _ admissions.dereserved (among_left person _ admissions.st (among_left person _ admissions.sc (among_left person _ admissions.obc (among_right person admissions.open_step admissions.ews h))))
-admitted_is_there admissions person (Obc, h) =
-    among_left person _ admissions.dereserved (among_left person _ admissions.st (among_left person _ admissions.sc (among_right person (admissions.open_step ++ admissions.ews) admissions.obc h)))
-admitted_is_there admissions person (Sc, h) =
-    among_left person _ admissions.dereserved (among_left person _ admissions.st (among_right person (admissions.open_step ++ admissions.ews ++ admissions.obc) admissions.sc h))
-admitted_is_there admissions person (St, h) =
-    among_left person _ admissions.dereserved (among_right person (admissions.open_step ++ admissions.ews ++ admissions.obc ++ admissions.sc) admissions.st h)
-admitted_is_there admissions person (Dereserved, h) = among_right person (admissions.open_step ++ admissions.ews ++ admissions.obc ++ admissions.sc ++ admissions.st) admissions.dereserved h
-
--- and is admitted by one of the steps
-pub there_is_admitted : (admissions : Admissions) (person : Person) → IsAmong person (everybody admissions) → IsAdmitted admissions person
-there_is_admitted admissions person h =
-    let is : Person → Type 0 = λ other. person ≡ other in
-    elim (any_append is (admissions.open_step ++ admissions.ews ++ admissions.obc ++ admissions.sc ++ admissions.st) admissions.dereserved h) [
-      | inr a ↦ (Dereserved, a)
-      | inl h1 ↦ elim (any_append is (admissions.open_step ++ admissions.ews ++ admissions.obc ++ admissions.sc) admissions.st h1) [
-        | inr a ↦ (St, a)
-        | inl h2 ↦ elim (any_append is (admissions.open_step ++ admissions.ews ++ admissions.obc) admissions.sc h2) [
-          | inr a ↦ (Sc, a)
-          | inl h3 ↦ elim (any_append is (admissions.open_step ++ admissions.ews) admissions.obc h3) [
-            | inr a ↦ (Obc, a)
-            | inl h4 ↦ elim (any_append is admissions.open_step admissions.ews h4) [
-              | inr a ↦ (Ews, a)
-              | inl a ↦ (Open, a)
-            ]
-          ]
-        ]
-      ]
-    ]
 
 -- ---- what a state shows is what the rule says
 
@@ -200,7 +162,7 @@ all_show version table seekers next states i p n s old new shows try at shown = 
         record {
           version_is = before.version_is;
           seats_are = before.seats_are;
-          choice = subst (λ people. ChoosesFrom version (seats_in table q) people state.admissions)
+          choice = subst (λ people. ChoosesFrom version (seats_in table q) people (admissions_of state))
               (sym (other_programmes (rule_of version table) (length table.programmes) p i n q seekers next s try h.1)) before.choice;
         }
   ];

@@ -3,7 +3,7 @@ use Rattle.std.proofs.Common.{◌≡◌, ◌+◌, ◌⊎◌, inl, inr, ℕ, zero
 use Rattle.std.specs.Prelude.{slice_get}
 use Rattle.std.proofs.lemmas.List.{length_push}
 use Rattle.allocations.specs.Course.{tried}
-use Rattle.open_then_category.specs.State.{ProgrammeKept, nobody}
+use Rattle.open_then_category.specs.State.{ProgrammeKept, empty_programme}
 use Rattle.open_then_category.specs.Tried.{counted}
 use Rattle.open_then_category.specs.declared.kept_lists.Tried.{Tried}
 use Rattle.programme_lists.specs.Chosen.{ShowsFrom}
@@ -20,7 +20,7 @@ at_end (z ∷ xs) x y (suc p) at = elim (at_end xs x y p at) [ inl h ↦ inl h |
 
 pub record BegunTo (version : ℕ) (table : SeatTable) (n : ℕ) (states : List ProgrammeKept) : Type 0 where
   pub full : length states ≡ n
-  pub each : (p : ℕ) (state : ProgrammeKept) → slice_get states p ≡ Some state → state ≡ record { version = version; seats = seats_in table p; admissions = nobody }
+  pub each : (p : ℕ) (state : ProgrammeKept) → slice_get states p ≡ Some state → state ≡ empty_programme version (seats_in table p)
 
 pub begun_none : (version : ℕ) (table : SeatTable) (states : List ProgrammeKept) → states ≡ [] → BegunTo version table 0 states
 begun_none version table states none = record {
@@ -29,12 +29,12 @@ begun_none version table states none = record {
 }
 
 pub begun_more : (version : ℕ) (table : SeatTable) (n : ℕ) (states new : List ProgrammeKept) (state : ProgrammeKept) → BegunTo version table n states → new ≡ states ++ state ∷ []
-    → state ≡ record { version = version; seats = seats_in table n; admissions = nobody } → BegunTo version table (n + 1) new
+    → state ≡ empty_programme version (seats_in table n) → BegunTo version table (n + 1) new
 begun_more version table n states new state h made is = record {
   full = ap length made ∙ (length_push states state ∙ ap (λ k. k + 1) h.full);
   each = λ p other at. elim (at_end states state other p (subst (λ l. slice_get l p ≡ Some other) made at)) [
     | inl before ↦ h.each p other before
-    | inr now ↦ sym now.1 ∙ (is ∙ ap (λ k. let s : ProgrammeKept = record { version = version; seats = seats_in table k; admissions = nobody } in s) (sym (now.0 ∙ h.full)))
+    | inr now ↦ sym now.1 ∙ (is ∙ ap (λ k. empty_programme version (seats_in table k)) (sym (now.0 ∙ h.full)))
   ];
 }
 

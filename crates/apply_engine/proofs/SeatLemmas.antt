@@ -2,18 +2,19 @@
 use Rattle.std.proofs.Common.{◌≡◌, ◌≢◌, ◌<◌, ◌≤◌, ◌+◌, ◌⊎◌, inl, inr, ℕ, zero, suc, List, [], ◌∷◌, Option, Some, arith, refl, sym, ap, ◌∙◌, subst}
 use Rattle.std.specs.Prelude.{slice_get}
 use Rattle.std.proofs.lemmas.Bool.Decides.{eqb_tells}
+use Rattle.office_base.specs.CategorySteps.{all_steps}
 use Rattle.office_base.specs.Lists.{IsAmong, Pairwise}
 use Rattle.placements.proofs.Ranks.{one_person}
 use Rattle.office_base.specs.declared.asks.Seat.{Seat}
 use Rattle.office_base.specs.declared.person.Person.{Person}
 use Rattle.office_base.specs.declared.step.StepKind.{StepKind}
-use Rattle.office_base.specs.declared.step.StepKind.TheVariants.{Open, Ews, Obc, Sc, St, Dereserved}
 use Rattle.allocations.specs.Market.{seat_at}
 use Rattle.programme_lists.specs.declared.programme.Programme.{Programme}
 use Rattle.programme_lists.specs.declared.programme.StepList.{StepList}
 use Rattle.office_base.specs.StepNumbers.{step_number}
 use Rattle.office_base.proofs.StepNumbers.{one_number, below_six}
 use Rattle.placements.proofs.Convert.{same_cand}
+use Rattle.programme_lists.proofs.Parts.{any_step}
 use Rattle.apply_engine.specs.Made.{AreGiven, AreInOrder, AreOf, ArePut, AreShown, IsPut, IsShownOnce, admitted_of, shown}
 
 -- the list at a place shows whom it admits
@@ -109,41 +110,25 @@ is_one [] i x at = absurd (cc)
 is_one (y ∷ people) zero x at = inl (let same : y ≡ x = cc in sym same)
 is_one (y ∷ people) (suc i) x at = inr (is_one people i x at)
 
+-- whether one of these steps shows a person
+decide_steps : (P : StepKind → Type 0) (kinds : List StepKind) → ((kind : StepKind) → P kind ⊎ (P kind → ⊥)) → ((kind : StepKind) × P kind) ⊎ ((kind : StepKind) → IsAmong kind kinds → P kind → ⊥)
+decide_steps P [] decide = inr (λ kind there. absurd there)
+decide_steps P (first ∷ kinds) decide = elim (decide first) [
+  | inl here ↦ inl (first, here)
+  | inr apart ↦ elim (decide_steps P kinds decide) [
+    | inl later ↦ inl later
+    | inr none ↦ inr (λ kind there held. elim there [ inl same ↦ apart (subst P same held) | inr later ↦ none kind later held ])
+  ]
+]
+
 -- whether a programme shows a person of the register
 pub decide_shown : (people : List Person) (programme : Programme) (i : ℕ) (person : Person) → Pairwise (λ (a b : Person). a.id ≢ b.id) people
     → ((kind : StepKind) → AreOf people (shown programme kind)) → slice_get people i ≡ Some person
     → ((kind : StepKind) × IsAmong person (shown programme kind)) ⊎ ((kind : StepKind) → IsAmong person (shown programme kind) → ⊥)
 decide_shown people programme i person distinct are there =
-    let by : (kind : StepKind) → IsAmong person (shown programme kind) ⊎ (IsAmong person (shown programme kind) → ⊥) = λ kind.
+    let one : (kind : StepKind) → IsAmong person (shown programme kind) ⊎ (IsAmong person (shown programme kind) → ⊥) = λ kind.
     decide_among person (shown programme kind) people (λ x among. let found = are kind x among in is_one people found.0 x found.1) (is_one people i person there) distinct in
-    elim (by Open) [
-      | inl a ↦ inl (Open, a)
-      | inr n0 ↦
-          elim (by Ews) [
-            | inl a ↦ inl (Ews, a)
-            | inr n1 ↦
-                elim (by Obc) [
-                  | inl a ↦ inl (Obc, a)
-                  | inr n2 ↦
-                      elim (by Sc) [
-                        | inl a ↦ inl (Sc, a)
-                        | inr n3 ↦
-                            elim (by St) [
-                              | inl a ↦ inl (St, a)
-                              | inr n4 ↦
-                                  elim (by Dereserved) [ inl a ↦ inl (Dereserved, a) | inr n5 ↦ inr (none person programme n0 n1 n2 n3 n4 n5) ]
-                            ]
-                      ]
-                ]
-          ]
+    elim (decide_steps (λ kind. IsAmong person (shown programme kind)) all_steps one) [
+      | inl here ↦ inl here
+      | inr none ↦ inr (λ kind held. none kind (any_step kind) held)
     ]
-  where
-    none : (person : Person) (programme : Programme) → (IsAmong person (shown programme Open) → ⊥) → (IsAmong person (shown programme Ews) → ⊥) → (IsAmong person (shown programme Obc) → ⊥)
-        → (IsAmong person (shown programme Sc) → ⊥) → (IsAmong person (shown programme St) → ⊥) → (IsAmong person (shown programme Dereserved) → ⊥)
-        → (kind : StepKind) → IsAmong person (shown programme kind) → ⊥
-    none person programme n0 n1 n2 n3 n4 n5 Open = n0
-    none person programme n0 n1 n2 n3 n4 n5 Ews = n1
-    none person programme n0 n1 n2 n3 n4 n5 Obc = n2
-    none person programme n0 n1 n2 n3 n4 n5 Sc = n3
-    none person programme n0 n1 n2 n3 n4 n5 St = n4
-    none person programme n0 n1 n2 n3 n4 n5 Dereserved = n5

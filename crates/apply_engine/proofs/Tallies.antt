@@ -1,12 +1,13 @@
 -- How many tried each programme: nobody at first, and one more after each offer.
-use Rattle.std.proofs.Common.{◌≡◌, ◌<◌, ◌≤◌, ◌+◌, inl, inr, ℕ, zero, suc, Bool, true, false, List, [], ◌∷◌, Some, length, slice_set, arith, refl, sym, ap, ◌∙◌, subst, length-set, cond, nat_lt}
+use Rattle.std.proofs.Common.{◌≡◌, ◌<◌, ◌≤◌, ◌+◌, inl, inr, ℕ, zero, suc, Bool, true, false, List, [], ◌∷◌, Some, length, map, slice_set, arith, refl, sym, ap, ◌∙◌, subst, length-set, cond, nat_lt}
 use Rattle.std.specs.Prelude.{slice_get, if◌then◌else◌}
-use Rattle.std.specs.List.{filter}
+use Rattle.std.specs.List.{AllByRecursion, filter}
 use Rattle.std.proofs.lemmas.Bool.{lt-ltb}
 use Rattle.std.proofs.lemmas.Bool.Decides.{nat_tests, eqb_tells}
+use Rattle.office_base.specs.CategorySteps.{category_steps}
 use Rattle.office_base.specs.Limits.{most_candidates}
 use Rattle.office_base.specs.Person.{IsList, is_common}
-use Rattle.office_base.specs.declared.person.Category.TheVariants.{Ews, Obc, Sc, St}
+use Rattle.office_base.specs.declared.category_steps.CategoryStep.{CategoryStep}
 use Rattle.office_base.specs.declared.person.ListId.{ListId}
 use Rattle.office_base.specs.declared.person.Person.{Person}
 use Rattle.office_base.proofs.Lists.{get_set_other}
@@ -19,14 +20,14 @@ use Rattle.allocations.proofs.Settled.{other_programmes}
 use Rattle.programme_lists.specs.Programme.{is_of}
 use Rattle.rounds.specs.Rule.{rule_of}
 use Rattle.seat_matrix.specs.Matrix.{list_in}
-use Rattle.open_then_category.specs.Tried.{counted, one_if, with_one}
+use Rattle.open_then_category.specs.Tried.{counted, one_if, with_member, with_one}
 use Rattle.open_then_category.specs.declared.kept_lists.Tried.{Tried}
 use Rattle.apply_engine.specs.Engine.{AreTallied, AreUntried, IsSet, Setting, seekers_in}
 use Rattle.apply_engine.proofs.Setting.{length_with}
 
 -- what is read where there is no count
 abbrev pub no_tally : Tried
-no_tally = record { list = record { 0 = 0 }; common = 0; ews = 0; obc = 0; sc = 0; st = 0 }
+no_tally = record { list = record { 0 = 0 }; common = 0; members = [] }
 
 -- how many of those who tried a programme pass a test
 abbrev count : (Person → Bool) → ℕ → List Seeker → List ℕ → ℕ
@@ -69,22 +70,18 @@ count_tried test p (suc i) n (t ∷ seekers) (m ∷ next) s there at place =
     by_test true after before e = (let a = count_more test t.person after in let b = count_more test t.person before in omega (arith, a, b, e))
     by_test false after before e = e
 
--- counts that are the same one by one are the same
-same_tally : (a b : Tried) → a.list ≡ b.list → a.common ≡ b.common → a.ews ≡ b.ews → a.obc ≡ b.obc → a.sc ≡ b.sc → a.st ≡ b.st → a ≡ b
-same_tally a b e0 e1 e2 e3 e4 e5 =
-    ap (λ l. let t : Tried = record { list = l; common = a.common; ews = a.ews; obc = a.obc; sc = a.sc; st = a.st } in t) e0
-    ∙ (ap (λ n. let t : Tried = record { list = b.list; common = n; ews = a.ews; obc = a.obc; sc = a.sc; st = a.st } in t) e1
-    ∙ (ap (λ n. let t : Tried = record { list = b.list; common = b.common; ews = n; obc = a.obc; sc = a.sc; st = a.st } in t) e2
-    ∙ (ap (λ n. let t : Tried = record { list = b.list; common = b.common; ews = b.ews; obc = n; sc = a.sc; st = a.st } in t) e3
-    ∙ (ap (λ n. let t : Tried = record { list = b.list; common = b.common; ews = b.ews; obc = b.obc; sc = n; st = a.st } in t) e4
-    ∙ ap (λ n. let t : Tried = record { list = b.list; common = b.common; ews = b.ews; obc = b.obc; sc = b.sc; st = n } in t) e5))))
+-- one more is counted for each category
+members_more : (person : Person) (before after : List Person) (rows : List CategoryStep) → ((test : Person → Bool) → length (filter test before) + one_if (test person) ≡ length (filter test after))
+    → with_member person rows (map (λ row. length (filter (is_of row.category) before)) rows) ≡ map (λ row. length (filter (is_of row.category) after)) rows
+members_more person before after [] more = refl
+members_more person before after (row ∷ rows) more = λ i. more (is_of row.category) i ∷ members_more person before after rows more i
 
 counted_more : (list : ListId) (p i n : ℕ) (seekers : List Seeker) (next : List ℕ) (s : Seeker) → slice_get seekers i ≡ Some s → slice_get next i ≡ Some n → place_of s.list p ≡ n
     → with_one s.person (counted list (tried p seekers next)) ≡ counted list (tried p seekers (slice_set next i (n + 1)))
 counted_more list p i n seekers next s there at place =
-    let one = λ (test : Person → Bool). sym (count_tried test p i n seekers next s there at place) in
-    same_tally (with_one s.person (counted list (tried p seekers next))) (counted list (tried p seekers (slice_set next i (n + 1)))) refl
-    (one (is_common list)) (one (is_of Ews)) (one (is_of Obc)) (one (is_of Sc)) (one (is_of St))
+    let one : (test : Person → Bool) → length (filter test (tried p seekers next)) + one_if (test s.person) ≡ length (filter test (tried p seekers (slice_set next i (n + 1)))) =
+    λ test. sym (count_tried test p i n seekers next s there at place) in
+    λ j. record { list = list; common = one (is_common list) j; members = members_more s.person (tried p seekers next) (tried p seekers (slice_set next i (n + 1))) category_steps one j }
 
 -- ---- room for one more
 
@@ -110,10 +107,13 @@ count_few test over next p set =
 pub record HasRoom (tally : Tried) : Type 0 where
   pub list : IsList tally.list
   pub common : tally.common < 4294967295
-  pub ews : tally.ews < 4294967295
-  pub obc : tally.obc < 4294967295
-  pub sc : tally.sc < 4294967295
-  pub st : tally.st < 4294967295
+  pub members : AllByRecursion (λ count. count < 4294967295) tally.members
+
+-- no category has more members among some people than there are
+few_members : (people : List Person) (rows : List CategoryStep) → ((test : Person → Bool) → length (filter test people) ≤ most_candidates)
+    → AllByRecursion (λ count. count < 4294967295) (map (λ row. length (filter (is_of row.category) people)) rows)
+few_members people [] few = tt
+few_members people (row ∷ rows) few = (let h = few (is_of row.category) in omega (arith, h), few_members people rows few)
 
 pub has_room : (over : Setting) (next : List ℕ) (tallies : List Tried) (p : ℕ) (tally : Tried) → IsSet over → AreTallied over next tallies → p < length over.table.programmes → slice_get tallies p ≡ Some tally
     → HasRoom tally
@@ -123,10 +123,7 @@ has_room over next tallies p tally set tallied below at =
     subst (λ (t : Tried). HasRoom t) (sym is) (record {
       list = (set.seats.sound p below).list;
       common = (let h = few (is_common (list_in over.table p)) in omega (arith, h));
-      ews = (let h = few (is_of Ews) in omega (arith, h));
-      obc = (let h = few (is_of Obc) in omega (arith, h));
-      sc = (let h = few (is_of Sc) in omega (arith, h));
-      st = (let h = few (is_of St) in omega (arith, h));
+      members = few_members (tried p (seekers_in over) next) category_steps few;
     })
 
 -- ---- all programmes

@@ -16,7 +16,7 @@ use Rattle.programme_lists.specs.declared.programme.Programme.{Programme}
 use Rattle.rounds.specs.declared.round.Round.{Round}
 use Rattle.seeks.specs.declared.seek.Seek.{Seek}
 use Rattle.open_then_category.specs.Laws.{AdmittedOnce, OneProgrammeChoice, ProgrammeChoiceExists, Resumes}
-use Rattle.open_then_category.specs.State.{ProgrammeKept, nobody}
+use Rattle.open_then_category.specs.State.{ProgrammeKept, admissions_of, empty_programme}
 use Rattle.open_then_category.specs.Tried.{counted}
 use Rattle.open_then_category.specs.declared.kept_lists.Tried.{Tried}
 use Rattle.programme_lists.specs.Chosen.{ChoosesFrom, ShowsFrom}
@@ -65,7 +65,7 @@ pub record IsSet (set : Setting) : Type 0 where
 pub record Show (version : ℕ) (table : SeatTable) (seekers : List Seeker) (next : List ℕ) (p : ℕ) (state : ProgrammeKept) : Type 0 where
   pub version_is : state.version ≡ version
   pub seats_are : state.seats ≡ seats_in table p
-  pub choice : ChoosesFrom version (seats_in table p) (tried p seekers next) state.admissions
+  pub choice : ChoosesFrom version (seats_in table p) (tried p seekers next) (admissions_of state)
 
 pub record AllShow (version : ℕ) (table : SeatTable) (seekers : List Seeker) (next : List ℕ) (states : List ProgrammeKept) : Type 0 where
   pub full : length states ≡ length table.programmes
@@ -109,7 +109,7 @@ Leaves set before after cur (Some out) = IsLeftFree set before after cur out
 -- each programme admits nobody yet
 pub record AreBegun (version : ℕ) (table : SeatTable) (states : List ProgrammeKept) : Type 0 where
   pub full : length states ≡ length table.programmes
-  pub each : (p : ℕ) (state : ProgrammeKept) → slice_get states p ≡ Some state → state ≡ record { version = version; seats = seats_in table p; admissions = nobody }
+  pub each : (p : ℕ) (state : ProgrammeKept) → slice_get states p ≡ Some state → state ≡ empty_programme version (seats_in table p)
 
 -- nobody came to a programme yet
 pub record AreUntried (table : SeatTable) (tallies : List Tried) : Type 0 where

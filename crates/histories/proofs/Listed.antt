@@ -1,7 +1,6 @@
 -- The lists of a published round are of steps whose seats hold a choice.
-use Rattle.std.proofs.Common.{◌≡◌, ◌<◌, ℕ, zero, suc, Bool, List, [], ◌∷◌, Option, Some, None, length, arith, refl, ap, ◌∙◌, subst, if◌then◌else◌}
+use Rattle.std.proofs.Common.{◌≡◌, ◌<◌, ℕ, zero, suc, List, Option, Some, None, length, arith, refl, ap, ◌∙◌, subst}
 use Rattle.std.specs.Prelude.{slice_get}
-use Rattle.std.proofs.lemmas.Bool.{le-ltb}
 use Rattle.std.proofs.lemmas.Option.{slice_get_within}
 use Rattle.office_base.specs.declared.step.StepKind.{StepKind}
 use Rattle.office_base.proofs.Lists.{all_weaker}
@@ -21,7 +20,7 @@ use Rattle.rounds.proofs.Entrants.{market}
 use Rattle.office_moves.specs.Facts.{IsSound, SeasonFacts, lists_in_order}
 use Rattle.office_moves.specs.State.{State, round_at}
 use Rattle.office_moves.specs.Moves.{programme_in}
-use Rattle.office_moves.specs.Raised.{matrix_of_round, raised, raised_before}
+use Rattle.office_moves.specs.Raised.{matrix_of_round, raised}
 use Rattle.office_moves.proofs.Grows.{none_raised}
 use Rattle.histories.specs.Course.{IsCourse, seeks_then}
 use Rattle.histories.specs.Laws.{ListsHoldChoices}

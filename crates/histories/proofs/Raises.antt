@@ -19,7 +19,7 @@ use Rattle.office_moves.specs.declared.decide.Decision.TheVariants.{Lift}
 use Rattle.office_moves.specs.declared.moves.Act.{Act}
 use Rattle.office_moves.specs.declared.moves.Entry.{Entry}
 use Rattle.office_moves.specs.declared.refusal.Refusal.{Refusal}
-use Rattle.office_moves.proofs.Rising.{AreLifts, IsLift, lifts_append, raised_append, raised_well}
+use Rattle.office_moves.proofs.Rising.{AreLifts, IsLift, lifts_append, raised_append, raised_well, with_raise}
 use Rattle.histories.specs.Laws.{SeatsOnlyRise, SeatsRise}
 use Rattle.histories.proofs.Accepted.{is_open}
 use Rattle.histories.proofs.Changes.{Answered, Finishes, Follows, Publishes, Raised}
@@ -47,7 +47,7 @@ still_before n (row ∷ rows) = by (nat_lt row.window n) refl (still_before n ro
 
 lifts_prefix : (table : SeatTable) (rows more : List RaiseRow) → AreLifts table (rows ++ more) → AreLifts table rows × AreLifts (raised table rows) more
 lifts_prefix table [] more lifts = (tt, lifts)
-lifts_prefix table (row ∷ rows) more lifts = let rest = lifts_prefix _ rows more lifts.1 in ((lifts.0, rest.0), rest.1)
+lifts_prefix table (row ∷ rows) more lifts = let rest = lifts_prefix (with_raise table row) rows more lifts.1 in ((lifts.0, rest.0), rest.1)
 
 -- ---- an accepted raise
 

@@ -1,10 +1,13 @@
 -- Over a course of a season the office keeps its word.
-use Rattle.std.proofs.Common.{◌≡◌, ◌⊎◌, inl, inr, ℕ, suc, true, List, [], ◌∷◌, Some, None, length, arith, refl, ap, ◌∙◌, subst}
+use Rattle.std.proofs.Common.{◌≡◌, ◌⊎◌, inl, inr, ℕ, suc, true, List, [], ◌∷◌, Some, None, length, arith, refl, sym, ap, ◌∙◌, subst}
 use Rattle.std.specs.Prelude.{slice_get, IsSome}
+use Rattle.allocations.specs.Market.{applicants}
 use Rattle.allocations.proofs.Claims.{fair_justified}
-use Rattle.rounds.specs.Rule.{AreSeeks, MayApplyIn, ProgrammesChooseWell, ProgrammesGrow, rule_of}
+use Rattle.rounds.specs.Rule.{AreSeeks, MayApplyIn, ProgrammesChooseWell, ProgrammesGrow, rule_of, seekers_of}
 use Rattle.rounds.specs.declared.round.Round.{Round}
 use Rattle.rounds.proofs.Entrants.{market}
+use Rattle.seat_matrix.specs.Matrix.{seats_in}
+use Rattle.programme_lists.specs.Chosen.{ShowsFrom}
 use Rattle.round_options.specs.Options.{holds}
 use Rattle.office_moves.specs.Facts.{IsSound, SeasonFacts, lists_in_order}
 use Rattle.office_moves.specs.State.{State, last_seat, seat_in, seat_of}
@@ -27,7 +30,8 @@ just facts state before round sound well course is =
     (market table facts.people (lists_in_order facts) (seeks_then facts state before) (course.seats (suc before)) of_table) (well facts.version table (course.seats (suc before))) made.best.fair in
     record {
       count = made.count;
-      shown = rw made.sought made.shown;
+      shown = λ p programme at. subst (λ seeks. ShowsFrom facts.version (seats_in table p) (applicants p (seekers_of table facts.people (lists_in_order facts) seeks) round.seats) programme) (sym made.sought)
+          (made.shown p programme at);
       no_claim = rw made.sought justified.no_claim;
       best = rw made.sought made.best;
     }

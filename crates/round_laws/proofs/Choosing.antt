@@ -2,16 +2,16 @@
 use Rattle.std.proofs.Common.{◌≡◌, ◌≤◌, inl, inr, ℕ, zero, suc, List, [], ◌∷◌, length, arith, refl, sym, ap, subst}
 use Rattle.std.specs.Prelude.{slice_index_or, option_map}
 use Rattle.std.specs.Option.{unwrap_or}
-use Rattle.std.proofs.lemmas.Bool.{cases_lt}
+use Rattle.std.proofs.lemmas.Bool.{cases_Bool, cases_lt}
 use Rattle.std.proofs.lemmas.Option.{slice_get_past}
 use Rattle.office_base.specs.Person.{IsList}
 use Rattle.office_base.specs.declared.step.StepKind.{StepKind}
-use Rattle.office_base.specs.declared.step.StepKind.TheVariants.{Open, Ews, Obc, Sc, St, Dereserved}
 use Rattle.open_then_category.specs.Laws.{ChosenWell, GrowsWithSeats, NoFewerFromMore}
 use Rattle.rounds.specs.Rule.{ProgrammesAdmitNoFewer, ProgrammesChooseWell, ProgrammesGrow}
 use Rattle.seat_matrix.specs.Matrix.{AreSeats, SeatTable, first_list, list_in, seats_in, steps_in}
-use Rattle.seat_matrix.specs.Seats.{AreProgrammeSeats, IsSeated, no_seating, no_seatings, of_step}
+use Rattle.seat_matrix.specs.Seats.{AreProgrammeSeats, IsSeated, is_dereserved, no_seating, no_seatings, of_step}
 use Rattle.seat_matrix.specs.declared.seats.Seatings.{Seatings}
+use Rattle.seat_matrix.proofs.SeatsLemmas.{made_at, none_own}
 
 index_after : {X : Type 0} (xs : List X) (p : ℕ) (x : X) → length xs ≤ p → slice_index_or xs p x ≡ x
 index_after [] p x far = refl
@@ -22,12 +22,10 @@ none_seated : IsSeated no_seating
 none_seated = record { protections = omega arith; seats = omega arith }
 
 no_steps : (step : StepKind) → IsSeated (of_step no_seatings step)
-no_steps Open = none_seated
-no_steps Ews = none_seated
-no_steps Obc = none_seated
-no_steps Sc = none_seated
-no_steps St = none_seated
-no_steps Dereserved = none_seated
+no_steps step = subst IsSeated (elim (cases_Bool (is_dereserved step)) [
+  | inl last ↦ sym (none_own no_seatings step last)
+  | inr own ↦ sym (made_at (λ kind. no_seating) step own)
+]) none_seated
 
 -- the seats of each programme are sound, and so are those of none
 sound_all : (table : SeatTable) → AreSeats table → (p : ℕ) → AreProgrammeSeats (seats_in table p)

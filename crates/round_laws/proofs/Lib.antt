@@ -1,4 +1,5 @@
 mod Choosing
+pub mod Everybody
 mod InTurn
 pub mod OneRound
 mod Told

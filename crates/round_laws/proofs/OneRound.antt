@@ -1,24 +1,21 @@
 -- A round is one: so are its seats, and the lists that a programme shows of one choice.
-use Rattle.std.proofs.Common.{◌≡◌, ◌<◌, ℕ, suc, List, [], ◌∷◌, ◌++◌, Some, length, arith, refl, sym, ap, ◌∙◌, subst, inl, inr}
+use Rattle.std.proofs.Common.{◌≡◌, ◌<◌, ℕ, suc, List, [], ◌∷◌, Some, length, arith, refl, sym, ap, ◌∙◌, subst}
 use Rattle.std.specs.Prelude.{slice_get}
 use Rattle.std.specs.List.{AllZip}
 use Rattle.std.proofs.lemmas.Option.{slice_get_within}
-use Rattle.office_base.specs.Lists.{IsSublist}
+use Rattle.office_base.specs.CategorySteps.{all_steps}
 use Rattle.office_base.specs.Merit.{in_merit}
 use Rattle.office_base.specs.declared.person.Person.{Person}
 use Rattle.office_base.specs.declared.step.Protections.{Protections}
 use Rattle.office_base.specs.declared.step.StepKind.{StepKind}
-use Rattle.office_base.specs.declared.step.StepKind.TheVariants.{Open, Ews, Obc, Sc, St, Dereserved}
 use Rattle.placements.specs.Ranks.{AreDistinct}
-use Rattle.placements.proofs.Ranks.{pairwise_sublist}
-use Rattle.placements.proofs.Sublists.{IsSublist-nil, IsSublist-same}
 use Rattle.slot_cert.specs.Laws.{OneCertificate}
 use Rattle.seat_matrix.specs.Matrix.{seats_in}
 use Rattle.seat_matrix.specs.Seats.{AreProgrammeSeats, seats_of}
 use Rattle.seat_matrix.specs.declared.seats.ProgrammeSeats.{ProgrammeSeats}
-use Rattle.programme_lists.specs.Chosen.{AreApplicants, ShowsFrom, everybody}
+use Rattle.programme_lists.specs.Chosen.{AreApplicants, ShowsFrom}
 use Rattle.programme_lists.specs.Listing.{Shows, ShowsStep, ShowsSteps, seats_filled}
-use Rattle.programme_lists.specs.Programme.{Admissions, admitted_by, people_of}
+use Rattle.programme_lists.specs.Programme.{admitted_by, people_of}
 use Rattle.programme_lists.specs.declared.programme.Programme.{Programme}
 use Rattle.programme_lists.specs.declared.programme.StepList.{StepList}
 use Rattle.open_then_category.specs.Laws.{AdmittedOnce, OneProgrammeChoice}
@@ -27,6 +24,7 @@ use Rattle.allocations.proofs.Claims.{applicants_may, one_best}
 use Rattle.rounds.specs.Rule.{MayApplyIn, ProgrammesChooseWell, rule_of, seekers_of}
 use Rattle.rounds.proofs.Entrants.{market}
 use Rattle.round_laws.specs.Laws.{OneRound}
+use Rattle.round_laws.proofs.Everybody.{step_distinct}
 
 -- the laws on which it rests
 pub record ChooseOnce : Type 0 where
@@ -36,57 +34,6 @@ pub record ChooseOnce : Type 0 where
   pub certificate : OneCertificate
 
 -- ---- lists
-
-left_part : {X : Type 0} (xs ys : List X) → IsSublist xs (xs ++ ys)
-left_part [] ys = IsSublist-nil ys
-left_part (x ∷ xs) ys = inr (xs, refl, left_part xs ys)
-
-right_part : {X : Type 0} (xs ys zs : List X) → IsSublist zs ys → IsSublist zs (xs ++ ys)
-right_part [] ys zs h = h
-right_part (x ∷ xs) ys zs h = inl (right_part xs ys zs h)
-
-left_distinct : (xs ys : List Person) → AreDistinct (xs ++ ys) → AreDistinct xs
-left_distinct xs ys distinct = pairwise_sublist _ _ _ (left_part xs ys) distinct
-
-right_distinct : (xs ys : List Person) → AreDistinct (xs ++ ys) → AreDistinct ys
-right_distinct xs ys distinct = pairwise_sublist _ _ _ (right_part xs ys ys (IsSublist-same ys)) distinct
-
--- everybody admitted by the steps up to this one
-abbrev upto_ews : Admissions → List Person
-upto_ews admissions = admissions.open_step ++ admissions.ews
-
-abbrev upto_obc : Admissions → List Person
-upto_obc admissions = upto_ews admissions ++ admissions.obc
-
-abbrev upto_sc : Admissions → List Person
-upto_sc admissions = upto_obc admissions ++ admissions.sc
-
-abbrev upto_st : Admissions → List Person
-upto_st admissions = upto_sc admissions ++ admissions.st
-
--- those whom a step admits are distinct, where all who are admitted are
-pub step_distinct : (admissions : Admissions) (kind : StepKind) → AreDistinct (everybody admissions) → AreDistinct (admitted_by admissions kind)
-step_distinct admissions kind distinct = go kind
-  where
-    st : AreDistinct (upto_st admissions)
-    st = left_distinct (upto_st admissions) admissions.dereserved distinct
-
-    sc : AreDistinct (upto_sc admissions)
-    sc = left_distinct (upto_sc admissions) admissions.st st
-
-    obc : AreDistinct (upto_obc admissions)
-    obc = left_distinct (upto_obc admissions) admissions.sc sc
-
-    ews : AreDistinct (upto_ews admissions)
-    ews = left_distinct (upto_ews admissions) admissions.obc obc
-
-    go : (kind : StepKind) → AreDistinct (admitted_by admissions kind)
-    go Open = left_distinct admissions.open_step admissions.ews ews
-    go Ews = right_distinct admissions.open_step admissions.ews ews
-    go Obc = right_distinct (upto_ews admissions) admissions.obc obc
-    go Sc = right_distinct (upto_obc admissions) admissions.sc sc
-    go St = right_distinct (upto_sc admissions) admissions.st st
-    go Dereserved = right_distinct (upto_st admissions) admissions.dereserved distinct
 
 one_along : {X Y : Type 0} (R : X → Y → Type 0) → ((x : X) (y z : Y) → R x y → R x z → y ≡ z) → (xs : List X) (ys zs : List Y) → AllZip R xs ys → AllZip R xs zs → ys ≡ zs
 one_along R one [] [] [] first second = refl
@@ -124,7 +71,7 @@ one_programme version seats people a b laws sound may first second =
     let again = subst (λ admissions. ShowsSteps version seats (in_merit seats.list people) admissions b) same second.2 in
     let steps : a.steps ≡ b.steps = one_along (ShowsStep version seats (in_merit seats.list people) first.0)
     (λ kind x y. one_list kind (seats_filled version seats first.0 kind) (seats_of seats kind).protections (people_of seats.list (in_merit seats.list people) first.0 kind)
-    (admitted_by first.0 kind) x y laws.certificate (step_distinct first.0 kind distinct)) (Open ∷ Ews ∷ Obc ∷ Sc ∷ St ∷ Dereserved ∷ []) a.steps b.steps first.2 again in
+    (admitted_by first.0 kind) x y laws.certificate (step_distinct first.0 kind distinct)) all_steps a.steps b.steps first.2 again in
     λ i. record { steps = steps i }
 
 -- ---- rounds

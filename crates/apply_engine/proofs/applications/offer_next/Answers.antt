@@ -166,33 +166,12 @@ add-requires-clause-common g c =
     let at = slice_get-get_or c.args.tallies.now c.from-at.result no_tally (omega (arith, m.try.below, c.requires.1.1.full)) in
     (has_room g.over _ _ c.from-at.result _ r.set_is c.requires.1.1 m.try.below at).common
 
-pub add-requires-clause-ews : goal.add-requires-clause-ews
-add-requires-clause-ews g c =
+pub add-requires-clause-members : goal.add-requires-clause-members
+add-requires-clause-members g c =
     let r = c.requires.1.0 in
     let m = making g.over _ _ _ _ c.args.cur c.from.result c.from-at.result _ _ r c.at.ensures c.from.ensures c.from-at.ensures in
     let at = slice_get-get_or c.args.tallies.now c.from-at.result no_tally (omega (arith, m.try.below, c.requires.1.1.full)) in
-    (has_room g.over _ _ c.from-at.result _ r.set_is c.requires.1.1 m.try.below at).ews
-
-pub add-requires-clause-obc : goal.add-requires-clause-obc
-add-requires-clause-obc g c =
-    let r = c.requires.1.0 in
-    let m = making g.over _ _ _ _ c.args.cur c.from.result c.from-at.result _ _ r c.at.ensures c.from.ensures c.from-at.ensures in
-    let at = slice_get-get_or c.args.tallies.now c.from-at.result no_tally (omega (arith, m.try.below, c.requires.1.1.full)) in
-    (has_room g.over _ _ c.from-at.result _ r.set_is c.requires.1.1 m.try.below at).obc
-
-pub add-requires-clause-sc : goal.add-requires-clause-sc
-add-requires-clause-sc g c =
-    let r = c.requires.1.0 in
-    let m = making g.over _ _ _ _ c.args.cur c.from.result c.from-at.result _ _ r c.at.ensures c.from.ensures c.from-at.ensures in
-    let at = slice_get-get_or c.args.tallies.now c.from-at.result no_tally (omega (arith, m.try.below, c.requires.1.1.full)) in
-    (has_room g.over _ _ c.from-at.result _ r.set_is c.requires.1.1 m.try.below at).sc
-
-pub add-requires-clause-st : goal.add-requires-clause-st
-add-requires-clause-st g c =
-    let r = c.requires.1.0 in
-    let m = making g.over _ _ _ _ c.args.cur c.from.result c.from-at.result _ _ r c.at.ensures c.from.ensures c.from-at.ensures in
-    let at = slice_get-get_or c.args.tallies.now c.from-at.result no_tally (omega (arith, m.try.below, c.requires.1.1.full)) in
-    (has_room g.over _ _ c.from-at.result _ r.set_is c.requires.1.1 m.try.below at).st
+    (has_room g.over _ _ c.from-at.result _ r.set_is c.requires.1.1 m.try.below at).members
 
 pub returns-in-Taken-clause-tallied : goal.returns-in-Taken-clause-tallied
 returns-in-Taken-clause-tallied g c =
