@@ -1,7 +1,9 @@
 -- The seat matrix with what was raised.
-use Rattle.std.specs.Prelude.{◌+◌, ℕ, nat_lt, List, [], ◌∷◌, if◌then◌else◌}
+use Rattle.std.specs.Prelude.{◌+◌, ℕ, nat_lt, sum_by, List, [], ◌∷◌, if◌then◌else◌}
+use Rattle.office_base.specs.CategorySteps.{own_steps}
 use Rattle.kept_rows.specs.declared.rows.RaiseRow.{RaiseRow}
 use Rattle.seat_matrix.specs.Matrix.{SeatTable, matrix_with, seating_in}
+use Rattle.seat_matrix.specs.Seats.{of_step}
 use Rattle.seat_matrix.specs.declared.seats.Seating.{Seating}
 use Rattle.seat_matrix.specs.declared.seats.Seatings.{Seatings}
 use Rattle.office_moves.specs.Facts.{SeasonFacts}
@@ -31,7 +33,7 @@ matrix_of_round facts state number = raised facts.matrix (raised_before number s
 
 -- the seats of all steps of one programme, and of all programmes
 abbrev pub seats_in_all : Seatings → ℕ
-seats_in_all steps = steps.open_step.seats + steps.ews.seats + steps.obc.seats + steps.sc.seats + steps.st.seats
+seats_in_all steps = sum_by (λ step. (of_step steps step).seats) own_steps
 
 abbrev pub sum_of_seats : List Seatings → ℕ
 sum_of_seats [] = 0

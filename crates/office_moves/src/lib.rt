@@ -9,6 +9,7 @@ pub mod decide;
 pub mod laws;
 pub mod moves;
 pub mod refusal;
+pub mod total;
 
 pub use decide::{
     AnswerLooks, Decision, Question, RaiseLooks, judge_answer, judge_cut, judge_list, judge_own,
@@ -16,3 +17,4 @@ pub use decide::{
 };
 pub use moves::{Act, Entry, Reply};
 pub use refusal::Refusal;
+pub use total::total_seats;

@@ -6,6 +6,5 @@
 
 mod accepted;
 pub mod raised;
-mod total;
 
 pub use raised::RaisedSeats;

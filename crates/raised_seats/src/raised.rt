@@ -10,10 +10,9 @@ ghost use Rattle.office_moves.specs.Decided.{same_raise};
 ghost use Rattle.office_moves.specs.Raised.{raised_to, total_seats};
 
 use crate::accepted::AcceptedRaises;
-use crate::total::total_seats;
 use kept_rows::RaiseRow;
 use office_base::OutOfMemory;
-use office_moves::RaiseLooks;
+use office_moves::{RaiseLooks, total_seats};
 use seat_matrix::Matrix;
 use std::alloc::Global;
 use std::marker::Model;

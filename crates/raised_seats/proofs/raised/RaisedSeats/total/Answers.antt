@@ -2,8 +2,7 @@ use Rattle.std.proofs.Common.{◌≤◌, arith, ap}
 use Rattle.seat_matrix.specs.Matrix.{seating_in}
 use Rattle.raised_seats.specs.Raised.{Raised}
 use Rattle.office_moves.specs.Raised.{total_seats}
-use Rattle.office_moves.proofs.Sums.{of_sum}
-use Rattle.raised_seats.proofs.Sums.{sum_small}
+use Rattle.office_moves.proofs.Sums.{of_sum, sum_small}
 use Rattle.raised_seats.proofs.raised.RaisedSeats.total.Goals as goal
 
 pub returns-clause-most : goal.returns-clause-most
