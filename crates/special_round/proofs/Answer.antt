@@ -1,19 +1,14 @@
 -- Lists that are checked against the tables of an office may be handed in or have one fault, never both.
 use Rattle.std.proofs.Common.{◌≡◌, ◌≢◌, ◌⊎◌, inl, inr, ℕ, List, Option, Some, None, refl, sym, ap, ◌∙◌, subst}
-use Rattle.section_rows.specs.Rows.{Row, rows_of}
-use Rattle.section_rows.specs.declared.fault.TableFault.{TableFault}
+use Rattle.section_rows.specs.Rows.{rows_of}
 use Rattle.section_rows.specs.declared.fault.TableFault.TheVariants.{Bad, OutOfMemory as NoMemory}
 use Rattle.kept_rows.specs.declared.rows.AllotRow.{AllotRow}
-use Rattle.rank_lists.specs.Register.{Ranks}
-use Rattle.seat_matrix.specs.Matrix.{SeatTable}
-use Rattle.choice_lists.specs.Choices.{IsFault, IsRead, Lists as ChoiceLists}
+use Rattle.choice_lists.specs.Choices.{IsRead, Lists as ChoiceLists}
 use Rattle.choice_lists.specs.Laws.{HaveOneReading}
-use Rattle.choice_lists.specs.declared.fault.ChoiceKind.{ChoiceKind}
-use Rattle.season_file.specs.declared.season.Season.{Season}
 use Rattle.office_moves.specs.Facts.{SeasonFacts, register_of}
 use Rattle.office_moves.specs.State.{State}
 use Rattle.special_round.specs.Laws.{HaveOneAnswer}
-use Rattle.special_round.specs.Season.{AreRefused, IsRemainingSeason, IsSpecialFault, MayBeHeld, first_admitted}
+use Rattle.special_round.specs.Season.{IsSpecialFault, MayBeHeld, first_admitted}
 use Rattle.special_round.specs.declared.fault.SpecialFault.{SpecialFault}
 use Rattle.special_round.specs.declared.fault.SpecialFault.TheVariants.{Admitted, Lists, NotFinal, OutOfMemory}
 

@@ -2,17 +2,16 @@
 use Rattle.std.proofs.Common.{◌≡◌, ◌<◌, ◌≤◌, ◌+◌, ◌-◌, ◌⊎◌, inl, inr, ℕ, zero, suc, Bool, true, false, List, [], ◌∷◌, Option, Some, None, length, arith, refl, sym, ap, ◌∙◌, subst, ◌==◌, ◌&&◌, if◌then◌else◌}
 use Rattle.std.specs.Prelude.{slice_get}
 use Rattle.std.proofs.lemmas.Bool.{cases_Bool, cases_lt, cond-false, cond-true}
+use Rattle.office_base.specs.CategorySteps.{category_steps}
 use Rattle.office_base.specs.StepNumbers.{step_number}
 use Rattle.office_base.specs.declared.asks.Seat.{Seat}
 use Rattle.office_base.specs.declared.person.CandId.{CandId}
 use Rattle.office_base.specs.declared.person.Person.{Person}
 use Rattle.office_base.specs.declared.step.StepKind.{StepKind}
-use Rattle.office_base.specs.declared.step.StepKind.TheVariants.{Dereserved, Ews, Obc}
 use Rattle.office_base.proofs.Lists.{there_is}
 use Rattle.office_base.proofs.Options.{is_some_from}
 use Rattle.kept_rows.specs.declared.rows.AllotRow.{AllotRow}
-use Rattle.seat_matrix.specs.Matrix.{SeatTable, seating_in, seats_in}
-use Rattle.seat_matrix.specs.Seats.{is_dereserved}
+use Rattle.seat_matrix.specs.Matrix.{SeatTable, seating_in}
 use Rattle.rounds.specs.Rule.{IsRaised}
 use Rattle.rounds.specs.declared.round.Round.{Round}
 use Rattle.round_options.specs.Options.{holds}
@@ -21,11 +20,13 @@ use Rattle.office_moves.specs.Moves.{row_before, rows_along}
 use Rattle.office_moves.specs.Promise.{kept_to_the_end, standing_then}
 use Rattle.office_moves.specs.Raised.{matrix_at, matrix_of_round}
 use Rattle.office_moves.specs.State.{State, seat_in}
-use Rattle.histories.specs.Course.{IsCourse, seeks_then}
+use Rattle.histories.specs.Course.{seeks_then}
 use Rattle.histories.specs.Orderly.{IsOrderly}
 use Rattle.histories.proofs.Fits.{seat_there}
 use Rattle.histories.proofs.Entering.{entrants}
+use Rattle.office_moves.proofs.Sums.{rows_less}
 use Rattle.special_round.specs.Laws.{FinalsFit, FitInto, RoundsFit}
+use Rattle.special_round.specs.Remaining.{may_be_taken}
 use Rattle.special_round.specs.Rows.{is_seat_of, rows_of_step, seats_of_step}
 use Rattle.special_round.proofs.Fitting.{fewer_fit}
 
@@ -66,9 +67,15 @@ pub more_seats : (table more : SeatTable) (prog : ℕ) (held : StepKind → ℕ)
 more_seats table more prog held raised fit = record {
   own = λ step own. let a = fit.own step own in let b = (raised.seats prog).seats step in omega (arith, a, b);
   dereserved =
-      let a = fit.dereserved in let b = (raised.seats prog).seats Obc in let c = (raised.seats prog).seats Ews in
-      omega (arith, a, b, c);
+      let a = fit.dereserved in
+      let more_left = rows_less (λ row. if may_be_taken row then (seating_in table prog row.step).seats - held row.step else 0) (λ row. if may_be_taken row then (seating_in more prog row.step).seats - held row.step else 0)
+      category_steps (λ row there. by (may_be_taken row) (seating_in table prog row.step).seats (seating_in more prog row.step).seats (held row.step) ((raised.seats prog).seats row.step)) in
+      omega (arith, a, more_left);
 }
+  where
+    by : (b : Bool) (s t n : ℕ) → s ≤ t → (if b then s - n else 0) ≤ (if b then t - n else 0)
+    by true s t n less = omega (arith, less)
+    by false s t n less = omega arith
 
 -- ---- the season
 

@@ -1,51 +1,66 @@
 -- A round gives no more seats of a programme than there are.
-use Rattle.std.proofs.Common.{◌<◌, ◌≤◌, ◌+◌, ◌-◌, ℕ, Bool, true, false, List, [], Option, Some, length, arith, refl, sym, ap, subst, ◌==◌, if◌then◌else◌}
-use Rattle.std.specs.Prelude.{slice_get}
+use Rattle.std.proofs.Common.{◌≤◌, ◌-◌, ℕ, Bool, true, false, List, length, arith, ap, subst, ◌==◌, if◌then◌else◌}
+use Rattle.std.specs.Prelude.{sum_by}
+use Rattle.std.proofs.lemmas.List.Sums.{sum-map}
+use Rattle.office_base.specs.CategorySteps.{category_steps, gives_away, gives_up}
 use Rattle.office_base.specs.Lists.{IsAmong}
 use Rattle.office_base.specs.Merit.{in_merit}
-use Rattle.office_base.specs.declared.asks.Seat.{Seat}
+use Rattle.office_base.specs.declared.category_steps.CategoryStep.{CategoryStep}
+use Rattle.office_base.specs.declared.category_steps.GivesUp.{GivesUp}
+use Rattle.office_base.specs.declared.category_steps.GivesUp.TheVariants.{Never, InVersion, Always}
 use Rattle.office_base.specs.declared.person.Person.{Person}
-use Rattle.office_base.specs.declared.person.ProgId.{ProgId}
 use Rattle.office_base.specs.declared.step.StepKind.{StepKind}
-use Rattle.office_base.specs.declared.step.StepKind.TheVariants.{Ews, Obc, Dereserved}
+use Rattle.office_base.specs.declared.step.StepKind.TheVariants.{Dereserved}
 use Rattle.office_base.proofs.Lists.{there_is, length_take_most}
-use Rattle.allocations.specs.Market.{Seeker, applicants, seat_at}
+use Rattle.allocations.specs.Market.{applicants}
 use Rattle.allocations.proofs.Claims.{applicants_may}
-use Rattle.seat_matrix.specs.Matrix.{AreSeats, SeatTable, list_in, seating_in, seats_in}
-use Rattle.seat_matrix.specs.Seats.{seats_of}
+use Rattle.seat_matrix.specs.Matrix.{SeatTable, list_in, seating_in, seats_in}
 use Rattle.seat_matrix.specs.Unfilled.{left_unfilled}
 use Rattle.programme_lists.specs.Chosen.{ChoosesFrom}
 use Rattle.programme_lists.specs.Programme.{Admissions, admitted_by, people_of, unfilled}
 use Rattle.open_then_category.specs.Laws.{OneProgrammeChoice}
-use Rattle.seeks.specs.declared.seek.Seek.{Seek}
 use Rattle.programme_lists.proofs.Seats.{own_seats}
-use Rattle.rounds.specs.Round.{IsRound}
-use Rattle.rounds.specs.Rule.{AreEntrants, MayApplyIn, ProgrammesChooseWell, rule_of, seekers_of}
-use Rattle.rounds.specs.declared.round.Round.{Round}
+use Rattle.rounds.specs.Rule.{MayApplyIn, ProgrammesChooseWell, rule_of, seekers_of}
 use Rattle.rounds.proofs.Entrants.{market}
+use Rattle.office_moves.proofs.Sums.{rows_less}
 use Rattle.special_round.specs.Laws.{FitInto, RoundsFit}
+use Rattle.special_round.specs.Remaining.{ever_given, may_be_taken}
 use Rattle.special_round.specs.Rows.{seats_of_step}
 use Rattle.special_round.proofs.Holders.{held_within}
 
 -- ---- whom the steps admit
 
-unfilled_of : (version ews held_ews obc held_obc : ℕ) → left_unfilled version ews held_ews obc held_obc ≤ (obc - held_obc) + (ews - held_ews)
-unfilled_of version ews held_ews obc held_obc = within (version == 2)
+-- a category that gives seats up in a version may give them up
+may_give : (row : CategoryStep) (version n : ℕ) → (if gives_up row version then n else 0) ≤ (if may_be_taken row then n else 0)
+may_give row version n = by row.gives_up
   where
-    within : (b : Bool) → (obc - held_obc) + (if b then ews - held_ews else 0) ≤ (obc - held_obc) + (ews - held_ews)
-    within true = omega arith
-    within false = omega arith
+    most : (b : Bool) → (if b then n else 0) ≤ n
+    most true = omega arith
+    most false = omega arith
 
--- the de-reserved step admits no more than OBC and EWS left
+    by : (g : GivesUp) → (if gives_away g version then n else 0) ≤ (if ever_given g then n else 0)
+    by Never = omega arith
+    by (InVersion only) = most (version == only)
+    by Always = omega arith
+
+unfilled_of : (version : ℕ) (seats held : StepKind → ℕ)
+    → left_unfilled version seats held ≤ sum_by (λ row. if may_be_taken row then seats row.step - held row.step else 0) category_steps
+unfilled_of version seats held =
+    let left : CategoryStep → ℕ = λ row. if gives_up row version then seats row.step - held row.step else 0 in
+    let whole = sum-map left category_steps in
+    let less = rows_less left (λ row. if may_be_taken row then seats row.step - held row.step else 0) category_steps (λ row there. may_give row version (seats row.step - held row.step)) in
+    omega (arith, whole, less)
+
+-- the de-reserved step admits no more than the categories left whose seats may be taken
 dereserved_seats : (version : ℕ) (table : SeatTable) (prog : ℕ) (people : List Person) (admissions : Admissions) → ChoosesFrom version (seats_in table prog) people admissions
     → length (admitted_by admissions Dereserved)
-    ≤ ((seating_in table prog Obc).seats - length (admitted_by admissions Obc)) + ((seating_in table prog Ews).seats - length (admitted_by admissions Ews))
+    ≤ sum_by (λ row. if may_be_taken row then (seating_in table prog row.step).seats - length (admitted_by admissions row.step) else 0) category_steps
 dereserved_seats version table prog people admissions choice =
     let list = list_in table prog in
     let empty = unfilled version (seats_in table prog) admissions in
     let first = ap (λ (l : List Person). length l) choice.dereserved in
     let second = length_take_most empty (people_of list (in_merit list people) admissions Dereserved) in
-    let third = unfilled_of version (seating_in table prog Ews).seats (length admissions.ews) (seating_in table prog Obc).seats (length admissions.obc) in
+    let third = unfilled_of version (λ step. (seating_in table prog step).seats) (λ step. length (admissions step)) in
     omega (arith, first, second, third)
 
 -- ---- whom a round seats
@@ -55,9 +70,15 @@ pub fewer_fit : (table : SeatTable) (prog : ℕ) (held more : StepKind → ℕ) 
 fewer_fit table prog held more less fit = record {
   own = λ step own. let a = less step in let b = fit.own step own in omega (arith, a, b);
   dereserved =
-      let a = less Dereserved in let b = less Obc in let c = less Ews in let d = fit.dereserved in
-      omega (arith, a, b, c, d);
+      let a = less Dereserved in let b = fit.dereserved in
+      let more_left = rows_less (λ row. if may_be_taken row then (seating_in table prog row.step).seats - more row.step else 0) (λ row. if may_be_taken row then (seating_in table prog row.step).seats - held row.step else 0)
+      category_steps (λ row there. by (may_be_taken row) (seating_in table prog row.step).seats (held row.step) (more row.step) (less row.step)) in
+      omega (arith, a, b, more_left);
 }
+  where
+    by : (b : Bool) (s m n : ℕ) → m ≤ n → (if b then s - n else 0) ≤ (if b then s - m else 0)
+    by true s m n less = omega (arith, less)
+    by false s m n less = omega arith
 
 admitted_fit : (version : ℕ) (table : SeatTable) (prog : ℕ) (people : List Person) (admissions : Admissions) → ChoosesFrom version (seats_in table prog) people admissions
     → FitInto table prog (λ step. length (admitted_by admissions step))

@@ -1,13 +1,12 @@
 -- Those who hold seats of a programme under one step are admitted there, so they are no more than those admitted.
-use Rattle.std.proofs.Common.{◌≡◌, ◌≢◌, ◌<◌, ◌≤◌, ◌+◌, inl, inr, ℕ, zero, suc, Bool, true, false, List, [], ◌∷◌, Option, Some, None, length, arith, refl, sym, ap, ◌∙◌, subst, ◌==◌, if◌then◌else◌}
+use Rattle.std.proofs.Common.{◌≡◌, ◌≢◌, ◌≤◌, inl, inr, ℕ, suc, Bool, true, false, List, [], ◌∷◌, Option, Some, None, length, arith, refl, sym, ap, ◌∙◌, subst, ◌==◌, if◌then◌else◌}
 use Rattle.std.specs.Prelude.{slice_get}
 use Rattle.std.specs.List.{AllByRecursion}
-use Rattle.std.proofs.lemmas.Bool.{cases_Bool, eqb-true, and_parts}
+use Rattle.std.proofs.lemmas.Bool.{eqb-true, and_parts}
 use Rattle.office_base.specs.Lists.{AnyByRecursion, IsAmong, Pairwise}
 use Rattle.office_base.specs.declared.asks.Seat.{Seat}
 use Rattle.office_base.specs.declared.person.CandId.{CandId}
 use Rattle.office_base.specs.declared.person.Person.{Person}
-use Rattle.office_base.specs.declared.person.ProgId.{ProgId}
 use Rattle.office_base.specs.declared.step.StepKind.{StepKind}
 use Rattle.office_base.specs.StepNumbers.{step_number}
 use Rattle.office_base.proofs.StepNumbers.{one_number}
@@ -15,7 +14,7 @@ use Rattle.placements.specs.Ranks.{AreAmong, AreDistinct, without}
 use Rattle.placements.proofs.Without.{among_without, length_without}
 use Rattle.allocations.specs.Market.{Seeker, seat_at, those}
 use Rattle.rounds.proofs.Entrants.{all_when}
-use Rattle.special_round.specs.Rows.{how_many, is_seat_of, seats_of_step}
+use Rattle.special_round.specs.Rows.{is_seat_of, seats_of_step}
 
 -- ---- no more distinct people than there are
 

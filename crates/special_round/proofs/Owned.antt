@@ -1,17 +1,17 @@
 -- The rows of a programme alone say as much of its steps as all rows do.
-use Rattle.std.proofs.Common.{◌≡◌, ◌++◌, inl, inr, ℕ, suc, Bool, true, false, List, [], ◌∷◌, Option, Some, None, refl, sym, ap, ◌∙◌, subst, ◌==◌, ◌&&◌, if◌then◌else◌}
+use Rattle.std.proofs.Common.{◌≡◌, ◌-◌, ℕ, suc, Bool, true, false, List, [], ◌∷◌, refl, sym, ap, subst, ◌==◌, ◌&&◌, if◌then◌else◌}
 use Rattle.std.specs.List.{filter}
+use Rattle.office_base.specs.CategorySteps.{row_of}
 use Rattle.office_base.specs.Merit.{CanBeRanked}
 use Rattle.office_base.specs.StepNumbers.{step_number}
 use Rattle.office_base.specs.declared.person.Person.{Person}
 use Rattle.office_base.specs.declared.step.StepKind.{StepKind}
-use Rattle.office_base.specs.declared.step.StepKind.TheVariants.{Open, Ews, Obc, Sc, St, Dereserved}
+use Rattle.office_base.specs.declared.step.StepKind.TheVariants.{Dereserved}
 use Rattle.kept_rows.specs.declared.rows.AllotRow.{AllotRow}
 use Rattle.rank_lists.specs.Register.{find_person}
 use Rattle.seat_matrix.specs.Matrix.{SeatTable, list_in, seating_in}
-use Rattle.seat_matrix.specs.Seats.{is_dereserved}
 use Rattle.seat_matrix.specs.declared.seats.Seating.{Seating}
-use Rattle.special_round.specs.Remaining.{IsLeft, seats_left}
+use Rattle.special_round.specs.Remaining.{IsLeft, seats_left, taken_from}
 use Rattle.special_round.specs.Rows.{before_those, finals_of, how_many, is_row_in, is_row_of, rows_of_step}
 use Rattle.special_round.specs.Set.{AreLeftIn, IsLeftOf}
 
@@ -41,12 +41,9 @@ finals_own people (row ∷ rows) prog step =
     persons_if people (row.prog.0 == prog) (step_number row.step == step_number step) prog step row (own_rows rows prog) (finals_of people rows prog step) refl (finals_own people rows prog step)
 
 pub seats_own : (table : SeatTable) (rows : List AllotRow) (prog : ℕ) (step : StepKind) → seats_left table (own_rows rows prog) prog step ≡ seats_left table rows prog step
-seats_own table rows prog Open = rw (count_own rows prog Open) refl
-seats_own table rows prog Ews = rw (count_own rows prog Ews, count_own rows prog Obc, count_own rows prog Dereserved) refl
-seats_own table rows prog Obc = rw (count_own rows prog Obc, count_own rows prog Dereserved) refl
-seats_own table rows prog Sc = rw (count_own rows prog Sc) refl
-seats_own table rows prog St = rw (count_own rows prog St) refl
-seats_own table rows prog Dereserved = refl
+seats_own table rows prog step =
+    let left : (StepKind → ℕ) → ℕ = λ count. ((seating_in table prog step).seats - count step) - taken_from (λ kind. (seating_in table prog kind).seats - count kind) (count Dereserved) (row_of step) in
+    ap left (λ i kind. count_own rows prog kind i)
 
 pub ranked_own : (people : List Person) (table : SeatTable) (rows : List AllotRow) (prog : ℕ) → ((step : StepKind) → CanBeRanked (list_in table prog) (finals_of people rows prog step))
     → (step : StepKind) → CanBeRanked (list_in table prog) (finals_of people (own_rows rows prog) prog step)
@@ -64,5 +61,6 @@ pub all_own : (people : List Person) (rows : List AllotRow) (table : SeatTable) 
 all_own people rows table prog before after set = record {
   programmes = set.programmes;
   steps = λ step own. left_own people rows table prog step (seating_in after prog step) (set.steps step own);
+  alone = set.alone;
   elsewhere = set.elsewhere;
 }

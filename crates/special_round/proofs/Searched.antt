@@ -1,10 +1,10 @@
 -- A binary search among the ids of final rows finds a candidate's, or the candidate has none.
 use Rattle.std.proofs.Common.{◌≡◌, ◌<◌, ℕ, zero, suc, Bool, true, false, List, [], ◌∷◌, Option, Some, Result, Ok, Err, length, map, get_or, refl, sym, ap, subst, inl, inr, ◌∙◌, arith, ◌==◌, ◌||◌}
-use Rattle.std.specs.Prelude.{is_ok, MatchResult}
+use Rattle.std.specs.Prelude.{is_ok}
 use Rattle.std.specs.List.{AllByRecursion}
 use Rattle.std.specs.List.Sorted.{IsBinarySearchResult}
 use Rattle.std.specs.Ordering.{nat_cmp}
-use Rattle.std.proofs.lemmas.Bool.{cases_Bool, cases_order, eq-eqb, eqb-true, ne_eqb, or_right}
+use Rattle.std.proofs.lemmas.Bool.{cases_order, eq-eqb, ne_eqb, or_right}
 use Rattle.std.proofs.lemmas.List.Sorted.{searched}
 use Rattle.office_base.specs.Lists.{Pairwise}
 use Rattle.choice_lists.proofs.FoundLemmas.{never_falls}

@@ -1,9 +1,7 @@
 -- Where lists have no row of a candidate with a final row, such a candidate has no list, and so no seat of a round over them.
-use Rattle.std.proofs.Common.{◌≡◌, ◌≢◌, ◌<◌, ◌+◌, inl, inr, ℕ, zero, suc, Bool, true, false, List, [], ◌∷◌, ◌++◌, drop, Option, Some, None, Result, Ok, Err, length, map, arith, refl, sym, ap, ◌∙◌, subst, ◌==◌, ◌||◌, if◌then◌else◌}
-use Rattle.std.specs.Prelude.{slice_get}
-use Rattle.std.specs.List.{AllByRecursion}
+use Rattle.std.proofs.Common.{◌≡◌, ◌<◌, ◌+◌, inl, inr, ℕ, Bool, true, false, List, [], ◌∷◌, ◌++◌, drop, Option, Some, None, Result, Ok, length, map, arith, refl, sym, ap, ◌∙◌, subst, ◌==◌, if◌then◌else◌}
 use Rattle.std.specs.Option.{option_and_then}
-use Rattle.std.proofs.lemmas.Bool.{cases_Bool, eq-eqb, eqb-true}
+use Rattle.std.proofs.lemmas.Bool.{cases_Bool, eqb-true}
 use Rattle.std.proofs.lemmas.Option.{slice_get_within}
 use Rattle.office_base.specs.Limits.{last_id}
 use Rattle.office_base.specs.Person.{at_person}
@@ -12,20 +10,19 @@ use Rattle.office_base.specs.declared.person.Person.{Person}
 use Rattle.office_base.specs.declared.person.ProgId.{ProgId}
 use Rattle.office_base.proofs.Lists.{there_is}
 use Rattle.office_text.specs.Number.{number_within}
-use Rattle.section_rows.specs.Rows.{Row, field, rows_of}
-use Rattle.section_rows.specs.Steps.{after, first_of, needs}
-use Rattle.section_rows.specs.Table.{entries_after, entries_of, with_entry}
+use Rattle.section_rows.specs.Rows.{Row, field}
+use Rattle.section_rows.proofs.TableLemmas.{all-along}
 use Rattle.section_rows.proofs.StepsLemmas.{after_ok, first_of-other}
 use Rattle.kept_rows.specs.declared.rows.AllotRow.{AllotRow}
 use Rattle.rank_lists.specs.Register.{AreRanks, Ranks, find_person}
 use Rattle.rank_lists.proofs.Known.{found_id}
 use Rattle.seat_matrix.specs.Matrix.{SeatTable}
-use Rattle.choice_lists.specs.Choices.{Entry, IsRead, Lists, choices, list_at, list_of, listed, new_candidate, reading}
-use Rattle.choice_lists.specs.declared.fault.ChoiceKind.{ChoiceKind}
+use Rattle.choice_lists.specs.Choices.{Entry, IsRead, Lists, choices, entries_of, header, list_at, list_of, listed, new_candidate, reading}
+use Rattle.choice_lists.specs.declared.fault.ChoiceKind.TheVariants.{BadHeader}
 use Rattle.seeks.specs.Seek.{seek_leaves}
 use Rattle.seeks.specs.declared.seek.Seek.{Seek}
-use Rattle.seeks.specs.declared.seek.Seek.TheVariants.{Whole}
 use Rattle.choice_lists.proofs.ChoicesLemmas.{new_candidate_ok}
+use Rattle.choice_lists.proofs.FoundLemmas.{listed-or-none}
 use Rattle.allocations.specs.Market.{place_of}
 use Rattle.rounds.specs.Round.{IsRound}
 use Rattle.rounds.specs.Rule.{seekers_of}
@@ -58,10 +55,9 @@ entry_is ranks seats entries row entry e =
 -- ---- those without a row
 
 -- where an entry is of another candidate, a candidate has no list after it either
-with_none : (ranks : Ranks) (seats : SeatTable) (id : ℕ) (finals : List AllotRow) (entries : List Entry) (row : Row) (given : Result Entry ChoiceKind) → reading ranks seats entries row ≡ given
-    → has_final id finals ≡ true → is_admitted (number_within 1 last_id (field row 0)) finals ≡ false → list_at id entries ≡ None → list_at id (with_entry entries given) ≡ None
-with_none ranks seats id finals entries row (Err kind) gave final apart none = none
-with_none ranks seats id finals entries row (Ok entry) gave final apart none =
+with_none : (ranks : Ranks) (seats : SeatTable) (id : ℕ) (finals : List AllotRow) (entries : List Entry) (row : Row) (entry : Entry) → reading ranks seats entries row ≡ Ok entry
+    → has_final id finals ≡ true → is_admitted (number_within 1 last_id (field row 0)) finals ≡ false → list_at id entries ≡ None → list_at id (entries ++ entry ∷ []) ≡ None
+with_none ranks seats id finals entries row entry gave final apart none =
     let mine = entry_is ranks seats entries row entry gave in
     let no : has_final entry.candidate finals ≡ false = subst (λ n. is_admitted n finals ≡ false) mine apart in
     let other : (id == entry.candidate) ≡ false = elim (cases_Bool (id == entry.candidate)) [
@@ -79,23 +75,28 @@ admitted_rest finals number row rows e = by (is_admitted (number_within 1 last_i
     by true is e = absurd (cc)
     by false is e = (refl, e)
 
-no_list_after : (ranks : Ranks) (seats : SeatTable) (id : ℕ) (finals : List AllotRow) (number : ℕ) (entries : List Entry) (rows : List Row) → has_final id finals ≡ true
-    → admitted_from finals number rows ≡ None → list_at id entries ≡ None → list_at id (entries_after (reading ranks seats) entries rows) ≡ None
-no_list_after ranks seats id finals number entries [] final nobody none = none
-no_list_after ranks seats id finals number entries (row ∷ rows) final nobody none =
-    let (apart, later) = admitted_rest finals number row rows nobody in
-    let given = reading ranks seats entries row in
-    no_list_after ranks seats id finals (number + 1) (with_entry entries given) rows final later (with_none ranks seats id finals entries row given refl final apart none)
+-- a candidate has no list so far, and no further row is the candidate's
+abbrev HasNone : ℕ → List AllotRow → List Entry → List Row → Type 0
+HasNone id finals entries rows = (list_at id entries ≡ None) × ((number : ℕ) × (admitted_from finals number rows ≡ None))
 
-no_list_of : (ranks : Ranks) (seats : SeatTable) (id : ℕ) (finals : List AllotRow) (rows : List Row) → has_final id finals ≡ true → first_admitted finals rows ≡ None
-    → list_at id (entries_of (reading ranks seats) rows) ≡ None
-no_list_of ranks seats id finals [] final nobody = refl
-no_list_of ranks seats id finals (header ∷ rows) final nobody = no_list_after ranks seats id finals 2 [] rows final nobody refl
+no_list_of : (ranks : Ranks) (seats : SeatTable) (id : ℕ) (finals : List AllotRow) (rows : List Row) (entries : List Entry) → has_final id finals ≡ true → first_admitted finals rows ≡ None
+    → entries_of ranks seats rows ≡ Ok entries → list_at id entries ≡ None
+no_list_of ranks seats id finals [] entries final nobody e = cc e
+no_list_of ranks seats id finals (first ∷ rows) entries final nobody e =
+    (all-along (reading ranks seats) (HasNone id finals)
+    (λ before row rest entry has gave.
+    let (apart, later) = admitted_rest finals has.1.0 row rest has.1.1 in
+    (with_none ranks seats id finals before row entry gave final apart has.0, (has.1.0 + 1, later)))
+    BadHeader header first rows entries (refl, (2, nobody)) e).0
 
 -- a candidate who has a final row has the empty list
 pub unlisted : (ranks : Ranks) (seats : SeatTable) (id : ℕ) (finals : List AllotRow) (rows : List Row) (lists : Lists) → has_final id finals ≡ true → first_admitted finals rows ≡ None
     → IsRead ranks seats rows lists → list_of lists id ≡ []
-unlisted ranks seats id finals rows lists final nobody read = read.1 id ∙ ap listed (no_list_of ranks seats id finals rows final nobody)
+unlisted ranks seats id finals rows lists final nobody read =
+    ap (λ (ls : Lists). list_of ls id) read.2 ∙ elim (listed-or-none ranks read.0 id) [
+      | inl e ↦ e ∙ ap listed (no_list_of ranks seats id finals rows read.0 final nobody read.1)
+      | inr e ↦ e
+    ]
 
 -- ---- no seat
 

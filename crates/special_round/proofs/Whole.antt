@@ -1,5 +1,5 @@
 -- The special round, put together from its parts.
-use Rattle.std.proofs.Common.{◌≡◌, ◌<◌, ◌≤◌, ◌+◌, ◌-◌, inl, inr, ℕ, zero, suc, Bool, true, List, [], ◌∷◌, Option, Some, None, length, map, refl, sym, ap, ◌∙◌, subst, ◌==◌, ◌||◌}
+use Rattle.std.proofs.Common.{◌≡◌, ◌<◌, ◌-◌, ℕ, zero, suc, Bool, true, List, [], ◌∷◌, Some, None, length, map, refl, sym, ap, ◌∙◌, subst, ◌==◌, ◌||◌}
 use Rattle.std.specs.Prelude.{replicate, slice_get}
 use Rattle.std.specs.List.{AllByRecursion}
 use Rattle.std.proofs.lemmas.Bool.{eq-eqb, or_right}
@@ -27,9 +27,8 @@ use Rattle.office_moves.specs.State.{seat_of}
 use Rattle.histories.proofs.Entering.{entrants}
 use Rattle.special_round.specs.Laws.{FitInto, TogetherWithin}
 use Rattle.special_round.specs.Rows.{rows_of_step}
-use Rattle.special_round.specs.Season.{IsLeftSeason, first_admitted, has_final}
+use Rattle.special_round.specs.Season.{IsLeftSeason, has_final}
 use Rattle.special_round.specs.Special.{IsSpecialOver, all_whole}
-use Rattle.special_round.specs.declared.round_over.Special.{Special}
 use Rattle.special_round.proofs.Unlisted.{unlisted, unseated}
 
 -- ---- everybody seeks the whole own list

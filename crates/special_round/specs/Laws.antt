@@ -1,9 +1,10 @@
 -- What holds of final rows and of the seats that they leave.
-use Rattle.std.specs.Prelude.{◌≡◌, ◌≢◌, ◌<◌, ◌≤◌, ◌+◌, ◌-◌, ◌⊎◌, ℕ, false, List, Some, length}
+use Rattle.std.specs.Prelude.{◌≡◌, ◌≢◌, ◌<◌, ◌≤◌, ◌+◌, ◌-◌, ◌⊎◌, ℕ, false, List, Some, length, sum_by, if◌then◌else◌}
+use Rattle.office_base.specs.CategorySteps.{category_steps}
 use Rattle.office_base.specs.declared.person.Person.{Person}
 use Rattle.office_base.specs.declared.person.ProgId.{ProgId}
 use Rattle.office_base.specs.declared.step.StepKind.{StepKind}
-use Rattle.office_base.specs.declared.step.StepKind.TheVariants.{Dereserved, Ews, Obc}
+use Rattle.office_base.specs.declared.step.StepKind.TheVariants.{Dereserved}
 use Rattle.kept_rows.specs.declared.rows.AllotRow.{AllotRow}
 use Rattle.seat_matrix.specs.Matrix.{AreSeats, SeatTable, seating_in, steps_in}
 use Rattle.seat_matrix.specs.Seats.{is_dereserved}
@@ -15,17 +16,18 @@ use Rattle.office_moves.specs.Facts.{IsSound, SeasonFacts}
 use Rattle.office_moves.specs.Raised.{matrix_at, seats_in_all}
 use Rattle.office_moves.specs.State.{State}
 use Rattle.histories.specs.Orderly.{IsOrderly}
-use Rattle.special_round.specs.Remaining.{AreFinals, IsRemaining}
+use Rattle.special_round.specs.Remaining.{AreFinals, IsRemaining, may_be_taken}
 use Rattle.season_file.specs.declared.season.Season.{Season}
 use Rattle.special_round.specs.Season.{IsRemainingSeason, IsSpecialFault, MayBeHeld}
 use Rattle.special_round.specs.declared.fault.SpecialFault.{SpecialFault}
 use Rattle.special_round.specs.declared.fault.SpecialFault.TheVariants.{OutOfMemory}
 use Rattle.special_round.specs.Rows.{rows_in, rows_of_step, seats_held, seats_of_step}
 
--- So many of each step fit into the seats of a programme: each step has its own seats, and the de-reserved one those that OBC and EWS left.
+-- So many of each step fit into the seats of a programme: each step has its own seats, and the de-reserved one those that the categories left whose seats
+-- may be taken, OBC and EWS.
 pub record FitInto (table : SeatTable) (prog : ℕ) (held : StepKind → ℕ) : Type 0 where
   pub own : (step : StepKind) → is_dereserved step ≡ false → held step ≤ (seating_in table prog step).seats
-  pub dereserved : held Dereserved ≤ ((seating_in table prog Obc).seats - held Obc) + ((seating_in table prog Ews).seats - held Ews)
+  pub dereserved : held Dereserved ≤ sum_by (λ row. if may_be_taken row then (seating_in table prog row.step).seats - held row.step else 0) category_steps
 
 -- A round gives no more seats of a programme than there are, step by step.
 abbrev pub RoundsFit : Type 0

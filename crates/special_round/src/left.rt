@@ -1,18 +1,22 @@
 // What final rows leave of the seats and protections of a step.
 ghost use Rattle.std.specs.Prelude.{◌≡◌, ◌≤◌, ◌<◌, ◌-◌, IfOk, length, min, sum};
+ghost use Rattle.office_base.specs.CategorySteps.{row_of};
 ghost use Rattle.office_base.specs.Merit.{CanBeRanked};
 ghost use Rattle.office_base.specs.Person.{IsList};
 ghost use Rattle.office_base.specs.Placement.{placed_on};
-ghost use Rattle.office_base.specs.declared.step.StepKind.TheVariants.{Dereserved, Obc};
+ghost use Rattle.office_base.specs.declared.step.StepKind.TheVariants.{Dereserved};
 ghost use Rattle.seat_matrix.specs.Matrix.{seating_in};
-ghost use Rattle.special_round.specs.Remaining.{IsLeft, own_left, protections_left, seats_left};
+ghost use Rattle.special_round.specs.Remaining.{IsLeft, left_behind, may_be_taken, own_left, protections_left, seats_left, taken_from};
 ghost use Rattle.special_round.specs.Rows.{rows_of_step};
 
 use crate::laws::left_is_within;
 use crate::rows::count_of_step;
 use kept_rows::AllotRow;
 use merit_choice::in_merit_order;
-use office_base::{ListId, OutOfMemory, Pair, Person, ProgId, Protections, StepKind};
+use office_base::{
+    CATEGORY_STEPS, CategoryStep, GivesUp, ListId, OutOfMemory, Pair, Person, ProgId, Protections,
+    StepKind, step_number,
+};
 use seat_matrix::{Matrix, Seating};
 use slot_cert::canonical_pairs;
 use std::alloc::Global;
@@ -25,24 +29,60 @@ fn own_seats_left(matrix: &Matrix, rows: &[AllotRow], prog: ProgId, step: StepKi
     usize::from(matrix.seats(prog, step)).saturating_sub(count_of_step(rows, prog, step)) as u16
 }
 
-// What rows of the de-reserved step leave of the seats of OBC.
-fn obc_left(own: u16, dereserved: usize) -> u16
-    ensures { result ≡ own - dereserved }
+/// Returns whether in some version of the bundle the empty seats of the category go to the de-reserved step.
+fn may_be_taken(row: CategoryStep) -> bool
+    ensures { result ≡ may_be_taken row }
 {
-    let own = usize::from(own);
-    own.saturating_sub(dereserved) as u16
+    match row.gives_up {
+        GivesUp::Never => false,
+        GivesUp::InVersion(_) | GivesUp::Always => true,
+    }
 }
 
-// What they leave of the seats of EWS, where so many are left of OBC for them.
-fn ews_left(own: u16, dereserved: usize, obc: u16) -> u16
-    ensures { result ≡ own - (dereserved - obc) }
+/// Returns the seats that the categories behind a step in the table have left of their own, of those whose seats may be taken.
+fn left_behind(matrix: &Matrix, rows: &[AllotRow], prog: ProgId, step: StepKind) -> usize
+    requires { prog.0 < length matrix.now.programmes }
+    ensures { result ≡ left_behind (own_left matrix.now rows.now prog.0) step }
 {
-    let own = usize::from(own);
-    own.saturating_sub(dereserved.saturating_sub(usize::from(obc))) as u16
+    let mut left = 0;
+    for row in CATEGORY_STEPS {
+        if may_be_taken(row) && step_number(step) < step_number(row.step) {
+            left += usize::from(own_seats_left(matrix, rows, prog, row.step));
+        }
+    }
+    left
 }
 
-/// The seats that final rows leave to a step of a programme, no more than it had: those of its own rows are taken off, and each row of the de-reserved step
-/// takes one of OBC while one is left there, and then one of EWS.
+/// Returns how many rows of the de-reserved step take a seat of a step, as far as there is one.
+fn taken_from(matrix: &Matrix, rows: &[AllotRow], prog: ProgId, step: StepKind) -> usize
+    requires { prog.0 < length matrix.now.programmes }
+    ensures { result ≡ taken_from (own_left matrix.now rows.now prog.0)
+        (rows_of_step rows.now prog.0 Dereserved) (row_of step) }
+{
+    let Some(row) = row_of(step) else {
+        return 0;
+    };
+    if !may_be_taken(row) {
+        return 0;
+    }
+    let dereserved = count_of_step(rows, prog, StepKind::Dereserved);
+    dereserved.saturating_sub(left_behind(matrix, rows, prog, row.step))
+}
+
+/// Returns the row of a step in the table, if it is the step of a category.
+fn row_of(step: StepKind) -> Option<CategoryStep>
+    ensures { result ≡ row_of step }
+{
+    for row in CATEGORY_STEPS {
+        if step_number(step) == step_number(row.step) {
+            return Some(row);
+        }
+    }
+    None
+}
+
+/// The seats that final rows leave to a step of a programme, no more than it had: those of its own rows are taken off, and
+/// then those that rows of the de-reserved step take.
 pub(crate) fn step_seats_left(
     matrix: &Matrix,
     rows: &[AllotRow],
@@ -53,17 +93,8 @@ pub(crate) fn step_seats_left(
     ensures left { result ≡ seats_left matrix.now rows.now prog.0 step }
     ensures most { result ≤ (seating_in matrix.now prog.0 step).seats }
 {
-    let own = own_seats_left(matrix, rows, prog, step);
-    let dereserved = count_of_step(rows, prog, StepKind::Dereserved);
-    match step {
-        StepKind::Obc => obc_left(own, dereserved),
-        StepKind::Ews => {
-            let obc = own_seats_left(matrix, rows, prog, StepKind::Obc);
-            ews_left(own, dereserved, obc)
-        }
-        StepKind::Dereserved => 0,
-        StepKind::Open | StepKind::Sc | StepKind::St => own,
-    }
+    let own = usize::from(own_seats_left(matrix, rows, prog, step));
+    own.saturating_sub(taken_from(matrix, rows, prog, step)) as u16
 }
 
 // How many of the pairs stand on positions of a trait.

@@ -1,9 +1,8 @@
 // The seats and protections that final rows leave of a matrix.
 ghost use Rattle.std.specs.Prelude.{◌≡◌, ◌<◌, IfOk, OnOk, false, length};
 ghost use Rattle.office_base.specs.Merit.{CanBeRanked};
-ghost use Rattle.office_base.specs.StepNumbers.{step_number};
 ghost use Rattle.office_base.specs.declared.step.StepKind.{StepKind};
-ghost use Rattle.seat_matrix.specs.Matrix.{list_in, seating_in};
+ghost use Rattle.seat_matrix.specs.Matrix.{list_in};
 ghost use Rattle.seat_matrix.specs.Seats.{is_dereserved};
 ghost use Rattle.special_round.specs.Remaining.{AreFinals, IsRemaining};
 ghost use Rattle.special_round.specs.Rows.{finals_of};
@@ -13,25 +12,10 @@ use crate::laws::{own_rows_rank, own_rows_say_all};
 use crate::left::{seating_left, step_seats_left};
 use crate::rows::{persons_of_step, rows_of_programme};
 use kept_rows::AllotRow;
-use office_base::{OutOfMemory, ProgId, StepKind};
+use office_base::{OWN_STEPS, OutOfMemory, ProgId, StepKind};
 use rank_lists::Register;
 use seat_matrix::Matrix;
 use std::alloc::Global;
-
-// The step of this number, of those that have seats of their own.
-fn own_step(number: u8) -> StepKind
-    requires { number < 5 }
-    ensures number { step_number result ≡ number }
-    ensures own { is_dereserved result ≡ false }
-{
-    match number {
-        0 => StepKind::Open,
-        1 => StepKind::Ews,
-        2 => StepKind::Obc,
-        3 => StepKind::Sc,
-        _ => StepKind::St,
-    }
-}
 
 /// Gives a step of a programme what its rows leave of the table.
 fn set_step(
@@ -75,8 +59,8 @@ fn set_programme(
     ensures set { OnOk result
         (AreLeftIn register.now.people rows.now table.now prog.0 left.old left.new) }
 {
-    for number in 0..5 {
-        set_step(alloc, register, rows, table, prog, own_step(number), left)?;
+    for step in OWN_STEPS {
+        set_step(alloc, register, rows, table, prog, step, left)?;
     }
     Ok(())
 }

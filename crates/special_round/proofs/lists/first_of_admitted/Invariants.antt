@@ -1,4 +1,4 @@
-use Rattle.std.proofs.Common.{◌≡◌, ◌+◌, length, map}
+use Rattle.std.proofs.Common.{◌≡◌, ◌+◌, length}
 use Rattle.section_rows.specs.Rows.{rows_of}
 use Rattle.special_round.specs.Season.{admitted_from, first_admitted}
 use Rattle.special_round.proofs.lists.first_of_admitted.Given as goal

@@ -2,7 +2,7 @@ use Rattle.std.proofs.Common.{◌∙◌, List, subst}
 use Rattle.std.proofs.lemmas.Result.{on_ok_weaker}
 use Rattle.kept_rows.specs.declared.rows.AllotRow.{AllotRow}
 use Rattle.special_round.specs.Set.{AreLeftIn}
-use Rattle.special_round.proofs.Owned.{all_own, own_rows}
+use Rattle.special_round.proofs.Owned.{all_own}
 use Rattle.special_round.proofs.matrix.set_from.Goals as goal
 
 pub returns : goal.returns

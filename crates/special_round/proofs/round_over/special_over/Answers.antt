@@ -1,4 +1,4 @@
-use Rattle.std.proofs.Common.{◌≡◌, ◌∙◌, List, ap, subst, sym}
+use Rattle.std.proofs.Common.{◌∙◌, List, ap, subst, sym}
 use Rattle.office_base.specs.declared.person.Person.{Person}
 use Rattle.season_facts.specs.Season.{facts_of}
 use Rattle.round_laws.specs.Laws.{lists_in}

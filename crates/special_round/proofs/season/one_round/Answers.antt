@@ -2,7 +2,6 @@ use Rattle.std.proofs.Common.{◌≡◌, ◌∙◌, sym, subst, ap, false, map}
 use Rattle.office_base.specs.declared.person.Person.{Person}
 use Rattle.std.specs.Prelude.{is_some}
 use Rattle.rank_lists.specs.Register.{Ranks, find_holder}
-use Rattle.choice_lists.specs.Choices.{AreChoices, IsRead}
 use Rattle.special_round.proofs.season.one_round.Goals as goal
 
 pub invariant_of-result-clause-clerk_apart : goal.invariant_of-result-clause-clerk_apart

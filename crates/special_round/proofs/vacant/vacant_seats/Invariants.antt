@@ -1,6 +1,0 @@
-use Rattle.std.proofs.Common.{◌≡◌, ◌≤◌, ◌*◌, take}
-use Rattle.office_moves.specs.Raised.{sum_of_seats}
-use Rattle.special_round.proofs.vacant.vacant_seats.Given as goal
-
-abbrev pub invariant-loop-number : goal.invariant-loop-number
-invariant-loop-number l = (l.total ≡ sum_of_seats (take l.number l.matrix.steps)) × (l.total ≤ 20000 * l.number)
