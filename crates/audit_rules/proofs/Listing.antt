@@ -1,21 +1,22 @@
 -- The entries of lists, and what their marks and misses say of the round's text.
-use Rattle.std.proofs.Common.{◌≡◌, ◌<◌, ◌+◌, ◌⊎◌, inl, inr, ℕ, zero, suc, Bool, true, false, List, [], ◌∷◌, ◌++◌, Option, Some, None, length, take, append-nil, append_assoc, arith, refl, sym, ap, ◌∙◌, subst, ◌==◌}
+use Rattle.std.proofs.Common.{◌≡◌, ◌<◌, ◌+◌, ◌⊎◌, inl, inr, ℕ, zero, suc, Bool, true, false, List, [], ◌∷◌, ◌++◌, Option, Some, None, length, take, drop, append-nil, append_assoc, arith, refl, sym, ap, ◌∙◌, subst, ◌==◌}
 use Rattle.std.specs.Prelude.{IsTrue, option_map, slice_get}
 use Rattle.std.proofs.lemmas.Bool.{cases_Bool, eqb-false, eqb-true}
 use Rattle.std.proofs.lemmas.List.{length-map, take_more, length-take-le}
 use Rattle.std.proofs.lemmas.Option.{get_or_from_slice_get, same_Some, slice_get-map, slice_get_within}
 use Rattle.office_base.proofs.StepNumbers.{one_number}
+use Rattle.office_base.specs.CategorySteps.{all_steps}
 use Rattle.office_base.specs.Lists.{IsAmong}
 use Rattle.office_base.specs.StepNumbers.{step_number}
 use Rattle.office_base.specs.declared.asks.Seat.{Seat}
 use Rattle.office_base.specs.declared.person.Person.{Person}
 use Rattle.office_base.specs.declared.step.StepKind.{StepKind}
-use Rattle.office_base.specs.declared.step.StepKind.TheVariants.{Open, Ews, Obc, Sc, St, Dereserved}
 use Rattle.office_base.proofs.Lists.{there_is, among_left, among_right}
 use Rattle.allocations.specs.Market.{seat_at}
 use Rattle.list_audit.specs.Clauses.{list_of_step}
 use Rattle.programme_lists.specs.declared.programme.Programme.{Programme}
 use Rattle.rank_lists.specs.Register.{row_of}
+use Rattle.programme_lists.proofs.Parts.{any_step}
 use Rattle.round_laws.proofs.People.{row_at}
 use Rattle.office_moves.specs.Facts.{IsSound, SeasonFacts}
 use Rattle.list_texts.specs.declared.lists.ListRead.{ListRead}
@@ -24,7 +25,7 @@ use Rattle.audit_rules.specs.Papers.{rows_after, seat_told, seats_told}
 use Rattle.audit_rules.proofs.Agreeing.{named_by_id, somebody_named}
 use Rattle.audit_rules.specs.AtCut.{IsAtCut, Setting}
 use Rattle.audit_rules.specs.Comes.{AllListed, AreLists, HoldOn, told_by}
-use Rattle.audit_rules.specs.Entries.{AreMarked, IsFirstMiss, IsMiss, entries_from, of_kind, of_programme, of_step}
+use Rattle.audit_rules.specs.Entries.{AreMarked, IsFirstMiss, IsMiss, entries_from, of_kind, of_kinds, of_programme, of_step}
 use Rattle.audit_rules.specs.declared.entries.Entry.{Entry}
 use Rattle.audit_rules.specs.declared.stand.Stand.{Stand}
 use Rattle.seat_matrix.specs.Matrix.{SeatTable}
@@ -51,32 +52,32 @@ either : {X : Type 0} (x : X) (xs ys : List X) → IsAmong x (xs ++ ys) → IsAm
 either x [] ys h = inr h
 either x (y ∷ xs) ys h = elim h [ inl e ↦ inl (inl e) | inr later ↦ elim (either x xs ys later) [ inl a ↦ inl (inr a) | inr b ↦ inr b ] ]
 
+-- the entries of one step more
+pub step_more : (p : ℕ) (programme : Programme) (items new : List Entry) (kinds : List StepKind) (i : ℕ) (kind : StepKind) → slice_get kinds i ≡ Some kind → new ≡ items ++ of_kind p programme kind
+    → new ++ of_kinds p programme (drop (suc i) kinds) ≡ items ++ of_kinds p programme (drop i kinds)
+step_more p programme items new [] i kind at more = absurd (cc)
+step_more p programme items new (first ∷ kinds) zero kind at more =
+    let rest : List Entry = of_kinds p programme kinds in
+    let same : first ≡ kind = cc in
+    ap (λ l. l ++ rest) more ∙ (append_assoc items (of_kind p programme kind) rest ∙ ap (λ (k : StepKind). items ++ (of_kind p programme k ++ rest)) (sym same))
+step_more p programme items new (first ∷ kinds) (suc i) kind at more = step_more p programme items new kinds i kind at more
+
+into_kinds : (p : ℕ) (programme : Programme) (kinds : List StepKind) (kind : StepKind) (entry : Entry) → IsAmong kind kinds → IsAmong entry (of_kind p programme kind) → IsAmong entry (of_kinds p programme kinds)
+into_kinds p programme [] kind entry there h = absurd there
+into_kinds p programme (first ∷ kinds) kind entry there h = elim there [
+  | inl same ↦ among_left entry (of_kind p programme first) _ (subst (λ k. IsAmong entry (of_kind p programme k)) same h)
+  | inr later ↦ among_right entry (of_kind p programme first) _ (into_kinds p programme kinds kind entry later h)
+]
+
 into_programme : (p : ℕ) (programme : Programme) (kind : StepKind) (entry : Entry) → IsAmong entry (of_kind p programme kind) → IsAmong entry (of_programme p programme)
-into_programme p programme Open entry h = among_left entry _ _ h
-into_programme p programme Ews entry h = among_right entry (of_kind p programme Open) _ (among_left entry _ _ h)
-into_programme p programme Obc entry h = among_right entry (of_kind p programme Open) _ (among_right entry (of_kind p programme Ews) _ (among_left entry _ _ h))
-into_programme p programme Sc entry h =
-    among_right entry (of_kind p programme Open) _ (among_right entry (of_kind p programme Ews) _ (among_right entry (of_kind p programme Obc) _ (among_left entry _ _ h)))
-into_programme p programme St entry h =
-    among_right entry (of_kind p programme Open) _ (among_right entry (of_kind p programme Ews) _ (among_right entry (of_kind p programme Obc) _ (among_right entry (of_kind p programme Sc) _ (among_left entry _ _ h))))
-into_programme p programme Dereserved entry h =
-    among_right entry (of_kind p programme Open) _ (among_right entry (of_kind p programme Ews) _ (among_right entry (of_kind p programme Obc) _
-    (among_right entry (of_kind p programme Sc) _ (among_right entry (of_kind p programme St) _ h))))
+into_programme p programme kind entry h = into_kinds p programme all_steps kind entry (any_step kind) h
+
+from_kinds : (p : ℕ) (programme : Programme) (kinds : List StepKind) (entry : Entry) → IsAmong entry (of_kinds p programme kinds) → (kind : StepKind) × IsAmong entry (of_kind p programme kind)
+from_kinds p programme [] entry h = absurd h
+from_kinds p programme (first ∷ kinds) entry h = elim (either entry (of_kind p programme first) _ h) [ inl here ↦ (first, here) | inr later ↦ from_kinds p programme kinds entry later ]
 
 from_programme : (p : ℕ) (programme : Programme) (entry : Entry) → IsAmong entry (of_programme p programme) → (kind : StepKind) × IsAmong entry (of_kind p programme kind)
-from_programme p programme entry h = elim (either entry (of_kind p programme Open) _ h) [
-  | inl a ↦ (Open, a)
-  | inr h1 ↦ elim (either entry (of_kind p programme Ews) _ h1) [
-    | inl a ↦ (Ews, a)
-    | inr h2 ↦ elim (either entry (of_kind p programme Obc) _ h2) [
-      | inl a ↦ (Obc, a)
-      | inr h3 ↦ elim (either entry (of_kind p programme Sc) _ h3) [
-        | inl a ↦ (Sc, a)
-        | inr h4 ↦ elim (either entry (of_kind p programme St) _ h4) [ inl a ↦ (St, a) | inr h5 ↦ (Dereserved, h5) ]
-      ]
-    ]
-  ]
-]
+from_programme p programme entry h = from_kinds p programme all_steps entry h
 
 into_all : (q p : ℕ) (programmes : List Programme) (programme : Programme) (entry : Entry) → slice_get programmes p ≡ Some programme → IsAmong entry (of_programme (q + p) programme)
     → IsAmong entry (entries_from q programmes)

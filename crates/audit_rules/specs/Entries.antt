@@ -1,10 +1,10 @@
 -- The entries of all programmes' lists, and where they and a round's text differ.
 use Rattle.std.specs.Prelude.{◌≡◌, ◌<◌, ◌+◌, ◌⊎◌, ℕ, suc, Bool, true, false, List, [], ◌∷◌, ◌++◌, Option, Some, None, length, map, slice_get}
+use Rattle.office_base.specs.CategorySteps.{all_steps}
 use Rattle.office_base.specs.Lists.{IsAmong}
 use Rattle.office_base.specs.declared.asks.Seat.{Seat}
 use Rattle.office_base.specs.declared.person.Person.{Person}
 use Rattle.office_base.specs.declared.step.StepKind.{StepKind}
-use Rattle.office_base.specs.declared.step.StepKind.TheVariants.{Open, Ews, Obc, Sc, St, Dereserved}
 use Rattle.list_audit.specs.Clauses.{list_of_step}
 use Rattle.programme_lists.specs.declared.programme.Programme.{Programme}
 use Rattle.rank_lists.specs.Register.{row_of}
@@ -18,10 +18,14 @@ of_step p kind people = map (λ person. record { seat = record { prog = record {
 abbrev pub of_kind : ℕ → Programme → StepKind → List Entry
 of_kind p programme kind = of_step p kind (list_of_step programme kind).admitted
 
+-- of the lists of these steps
+abbrev pub of_kinds : ℕ → Programme → List StepKind → List Entry
+of_kinds p programme [] = []
+of_kinds p programme (kind ∷ kinds) = of_kind p programme kind ++ of_kinds p programme kinds
+
 -- of the six lists of a programme
 abbrev pub of_programme : ℕ → Programme → List Entry
-of_programme p programme =
-    of_kind p programme Open ++ (of_kind p programme Ews ++ (of_kind p programme Obc ++ (of_kind p programme Sc ++ (of_kind p programme St ++ of_kind p programme Dereserved))))
+of_programme p programme = of_kinds p programme all_steps
 
 -- of all programmes, from the one of this number on
 abbrev pub entries_from : ℕ → List Programme → List Entry

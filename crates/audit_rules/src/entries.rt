@@ -5,7 +5,7 @@ ghost use Rattle.audit_rules.specs.Comes.{told_by};
 ghost use Rattle.audit_rules.specs.Entries.{entries_from, of_kind, of_programme, of_step};
 
 use list_texts::ListRead;
-use office_base::{CandId, OutOfMemory, Person, ProgId, Seat, StepKind, step_number};
+use office_base::{ALL_STEPS, CandId, OutOfMemory, Person, ProgId, Seat, StepKind, step_number};
 use programme_lists::Programme;
 use std::alloc::Global;
 
@@ -48,21 +48,6 @@ fn push_kind(
     push_step(entries, prog, step, list.admitted.as_slice())
 }
 
-/// Puts the entries of the last three steps of a programme after the others.
-fn push_rest(
-    entries: &mut Vec<Entry>,
-    prog: ProgId,
-    programme: &Programme,
-) -> Result<(), OutOfMemory>
-    ensures { OnOk result (entries.new.items
-        ≡ entries.old.items ++ (of_kind prog.0 programme.now StepKind.Sc ++ (of_kind prog.0
-        programme.now StepKind.St ++ of_kind prog.0 programme.now StepKind.Dereserved))) }
-{
-    push_kind(entries, prog, programme, StepKind::Sc)?;
-    push_kind(entries, prog, programme, StepKind::St)?;
-    push_kind(entries, prog, programme, StepKind::Dereserved)
-}
-
 /// Puts the entries of a programme after the others.
 fn push_programme(
     entries: &mut Vec<Entry>,
@@ -72,10 +57,10 @@ fn push_programme(
     ensures { OnOk result
         (entries.new.items ≡ entries.old.items ++ of_programme prog.0 programme.now) }
 {
-    push_kind(entries, prog, programme, StepKind::Open)?;
-    push_kind(entries, prog, programme, StepKind::Ews)?;
-    push_kind(entries, prog, programme, StepKind::Obc)?;
-    push_rest(entries, prog, programme)
+    for step in ALL_STEPS {
+        push_kind(entries, prog, programme, step)?;
+    }
+    Ok(())
 }
 
 /// The entries of the lists of all programmes, one programme after another.
