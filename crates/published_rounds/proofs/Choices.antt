@@ -4,28 +4,29 @@ use Rattle.std.specs.Prelude.{◌↔◌, ◌||◌, IsTrue}
 use Rattle.std.specs.List.{AllByRecursion, filter}
 use Rattle.std.proofs.lemmas.Bool.{cases_Bool, eq-eqb, eqb-true, lt-ltb, ltb-true}
 use Rattle.std.proofs.lemmas.List.{length-map, take-map}
+use Rattle.office_base.specs.CategorySteps.{own_steps, row_of}
 use Rattle.office_base.specs.Lists.{AnyByRecursion, IsAmong, IsSublist, Pairwise}
 use Rattle.office_base.specs.Merit.{in_merit, is_ahead, is_better, with_person}
 use Rattle.office_base.specs.Person.{IsAhead, IsBetter, has_trait, is_common, number_in}
 use Rattle.office_base.specs.Placement.{Fills, IsHonoured, IsPlacement, placed_on, protected}
 use Rattle.office_base.specs.StepChoice.{IsNoWorse, IsStepChoice, MayAdmit}
+use Rattle.office_base.specs.declared.category_steps.CategoryStep.{CategoryStep}
 use Rattle.office_base.specs.declared.step.Pair.{Pair}
 use Rattle.office_base.specs.declared.person.CandId.{CandId}
 use Rattle.office_base.specs.declared.person.Category.{Category}
-use Rattle.office_base.specs.declared.person.Category.TheVariants.{Ews, Obc, Sc, St}
 use Rattle.office_base.specs.declared.person.ListId.{ListId}
 use Rattle.office_base.specs.declared.person.Person.{Person}
 use Rattle.office_base.specs.declared.person.TraitSet.{TraitSet}
 use Rattle.office_base.specs.declared.step.Protections.{Protections}
 use Rattle.office_base.specs.declared.step.StepKind.{StepKind}
-use Rattle.office_base.specs.declared.step.StepKind.TheVariants.{Open, Ews as EwsStep, Obc as ObcStep, Sc as ScStep, St as StStep, Dereserved}
+use Rattle.office_base.specs.declared.step.StepKind.TheVariants.{Open, Dereserved}
 use Rattle.placements.proofs.Ranks.{same_cand}
 use Rattle.seat_matrix.specs.Seats.{AreProgrammeSeats, seats_of}
 use Rattle.seat_matrix.specs.Unfilled.{left_unfilled}
 use Rattle.seat_matrix.specs.declared.seats.ProgrammeSeats.{ProgrammeSeats}
 use Rattle.seat_matrix.specs.declared.seats.Seating.{Seating}
 use Rattle.programme_lists.specs.Chosen.{AdmitsUnder, AreApplicants, ChoosesFrom}
-use Rattle.programme_lists.specs.Programme.{Admissions, IsProgrammeChoice, admitted_by, is_of, is_same, is_taken, left_over, people_of, step_with, unfilled, without}
+use Rattle.programme_lists.specs.Programme.{Admissions, IsProgrammeChoice, admitted_by, is_of, is_same, is_taken, left_by, left_over, members_by, people_of, step_with, unfilled, without}
 use Rattle.open_then_category.specs.Laws.{OneProgrammeChoice, ProgrammeChoiceExists}
 use Rattle.published_rounds.specs.Order.{KeepsOrder}
 
@@ -240,61 +241,34 @@ module _ (g : CandId → CandId) (f : Person → Person) (keeps : KeepsOrder g f
 
   -- the admissions of the same persons
   abbrev pub admissions_map : Admissions → Admissions
-  admissions_map a = record {
-    open_step = map f a.open_step;
-    ews = map f a.ews;
-    obc = map f a.obc;
-    sc = map f a.sc;
-    st = map f a.st;
-    dereserved = map f a.dereserved;
-  }
+  admissions_map a = λ kind. map f (a kind)
 
-  members_map : (category : Category) (applicants taken : List Person) → filter (is_of category) (without (map f applicants) (map f taken)) ≡ map f (filter (is_of category) (without applicants taken))
-  members_map category applicants taken = ap (λ l. filter (is_of category) l) (without_map applicants taken) ∙ category_map category (without applicants taken)
+  members_map : (row : Option CategoryStep) (applicants taken : List Person) → members_by row (without (map f applicants) (map f taken)) ≡ map f (members_by row (without applicants taken))
+  members_map None applicants taken = refl
+  members_map (Some row) applicants taken = ap (λ l. filter (is_of row.category) l) (without_map applicants taken) ∙ category_map row.category (without applicants taken)
 
-  left_map : (applicants : List Person) (a : Admissions) → left_over (map f applicants) (admissions_map a) ≡ map f (left_over applicants a)
-  left_map applicants a =
-      ap (λ l. without (without (without (without l (map f a.ews)) (map f a.obc)) (map f a.sc)) (map f a.st)) (without_map applicants a.open_step)
-      ∙ (ap (λ l. without (without (without l (map f a.obc)) (map f a.sc)) (map f a.st)) (without_map (without applicants a.open_step) a.ews)
-      ∙ (ap (λ l. without (without l (map f a.sc)) (map f a.st)) (without_map (without (without applicants a.open_step) a.ews) a.obc)
-      ∙ (ap (λ l. without l (map f a.st)) (without_map (without (without (without applicants a.open_step) a.ews) a.obc) a.sc)
-      ∙ without_map (without (without (without (without applicants a.open_step) a.ews) a.obc) a.sc) a.st)))
+  left_map : (kinds : List StepKind) (applicants : List Person) (a : Admissions) → left_by kinds (map f applicants) (admissions_map a) ≡ map f (left_by kinds applicants a)
+  left_map [] applicants a = refl
+  left_map (kind ∷ kinds) applicants a = ap (λ l. left_by kinds l (admissions_map a)) (without_map applicants (a kind)) ∙ left_map kinds (without applicants (a kind)) a
 
-  by_category : (list : ListId) (seating : Seating) (category : Category) (applicants taken chosen : List Person)
-      → IsStepChoice (step_with list seating (filter (is_of category) (without applicants taken))) chosen
-      → IsStepChoice (step_with list seating (filter (is_of category) (without (map f applicants) (map f taken)))) (map f chosen)
-  by_category list seating category applicants taken chosen choice =
-      subst (λ l. IsStepChoice (step_with list seating l) (map f chosen)) (sym (members_map category applicants taken))
-      (step_map list seating (filter (is_of category) (without applicants taken)) chosen choice)
+  people_map : (list : ListId) (applicants : List Person) (a : Admissions) (kind : StepKind) → people_of list (map f applicants) (admissions_map a) kind ≡ map f (people_of list applicants a kind)
+  people_map list applicants a Open = common_map list applicants
+  people_map list applicants a Dereserved = ap (λ l. filter (is_common list) l) (left_map own_steps applicants a) ∙ common_map list (left_over applicants a)
+  people_map list applicants a kind = members_map (row_of kind) applicants (a Open)
 
   choice_map : (version : ℕ) (seats : ProgrammeSeats) (applicants : List Person) (a : Admissions) → IsProgrammeChoice version seats applicants a
       → IsProgrammeChoice version seats (map f applicants) (admissions_map a)
   choice_map version seats applicants a choice = record {
-    open_step = subst (λ l. IsStepChoice (step_with seats.list (seats_of seats Open) l) (map f a.open_step)) (sym (common_map seats.list applicants))
-        (step_map seats.list (seats_of seats Open) (filter (is_common seats.list) applicants) a.open_step choice.open_step);
-    ews = by_category seats.list (seats_of seats EwsStep) Ews applicants a.open_step a.ews choice.ews;
-    obc = by_category seats.list (seats_of seats ObcStep) Obc applicants a.open_step a.obc choice.obc;
-    sc = by_category seats.list (seats_of seats ScStep) Sc applicants a.open_step a.sc choice.sc;
-    st = by_category seats.list (seats_of seats StStep) St applicants a.open_step a.st choice.st;
+    own = λ kind own. subst (λ l. IsStepChoice (step_with seats.list (seats_of seats kind) l) (map f (a kind))) (sym (people_map seats.list applicants a kind))
+        (step_map seats.list (seats_of seats kind) (people_of seats.list applicants a kind) (a kind) (choice.own kind own));
     dereserved =
         let n = unfilled version seats a in
         let people = people_of seats.list applicants a Dereserved in
-        let few : unfilled version seats (admissions_map a) ≡ n =
-        ap (λ k. left_unfilled version (seats_of seats EwsStep).seats k (seats_of seats ObcStep).seats (length (map f a.obc))) (length-map a.ews f)
-        ∙ ap (λ k. left_unfilled version (seats_of seats EwsStep).seats (length a.ews) (seats_of seats ObcStep).seats k) (length-map a.obc f) in
-        let left : filter (is_common seats.list) (left_over (map f applicants) (admissions_map a)) ≡ map f people =
-        ap (λ l. filter (is_common seats.list) l) (left_map applicants a) ∙ common_map seats.list (left_over applicants a) in
+        let few : unfilled version seats (admissions_map a) ≡ n = ap (λ held. left_unfilled version (λ kind. (seats_of seats kind).seats) held) (λ i kind. length-map (a kind) f i) in
+        let left = people_map seats.list applicants a Dereserved in
         ap (λ l. map f l) choice.dereserved
-        ∙ (sym (take-map f n people) ∙ (ap (λ l. take n l) (sym left) ∙ ap (λ k. take k (filter (is_common seats.list) (left_over (map f applicants) (admissions_map a)))) (sym few)));
+        ∙ (sym (take-map f n people) ∙ (ap (λ l. take n l) (sym left) ∙ ap (λ k. take k (people_of seats.list (map f applicants) (admissions_map a) Dereserved)) (sym few)));
   }
-
-  admitted_map : (a : Admissions) (kind : StepKind) → admitted_by (admissions_map a) kind ≡ map f (admitted_by a kind)
-  admitted_map a Open = refl
-  admitted_map a EwsStep = refl
-  admitted_map a ObcStep = refl
-  admitted_map a ScStep = refl
-  admitted_map a StStep = refl
-  admitted_map a Dereserved = refl
 
   chooses_map : (version : ℕ) (seats : ProgrammeSeats) (people : List Person) (a : Admissions) → ChoosesFrom version seats people a → ChoosesFrom version seats (map f people) (admissions_map a)
   chooses_map version seats people a choice =
@@ -307,11 +281,11 @@ module _ (g : CandId → CandId) (f : Person → Person) (keeps : KeepsOrder g f
     λ admits. (
       admissions_map admits.0,
       chooses_map version seats people admits.0 admits.1,
-      subst (λ l. IsAmong (f x) l) (sym (admitted_map admits.0 kind)) (among_map f x (admitted_by admits.0 kind) admits.2),
+      among_map f x (admitted_by admits.0 kind) admits.2,
     ),
     λ admits.
         let found = exists version seats people ok may in
         let same = one version seats (map f people) admits.0 (admissions_map found.0) ok may' admits.1 (chooses_map version seats people found.0 found.1) in
         let here = subst (λ (a : Admissions). IsAmong (f x) (admitted_by a kind)) same admits.2 in
-        (found.0, found.1, among_of_map f keeps.apart x (admitted_by found.0 kind) (subst (λ l. IsAmong (f x) l) (admitted_map found.0 kind) here)),
+        (found.0, found.1, among_of_map f keeps.apart x (admitted_by found.0 kind) here),
   )

@@ -1,15 +1,17 @@
 -- With the de-reserved step a programme admits whom it admits without it, so the step hurts nobody.
-use Rattle.std.proofs.Common.{◌≤◌, ℕ, suc, List, length, take, refl, sym, subst}
+use Rattle.std.proofs.Common.{◌≡◌, ◌≤◌, ℕ, suc, false, List, length, take, refl, sym, subst}
 use Rattle.office_base.specs.Lists.{IsAmong}
 use Rattle.office_base.specs.Merit.{in_merit}
+use Rattle.office_base.specs.StepChoice.{IsStepChoice}
 use Rattle.office_base.specs.declared.person.Person.{Person}
 use Rattle.office_base.specs.declared.step.StepKind.{StepKind}
-use Rattle.office_base.specs.declared.step.StepKind.TheVariants.{Open, Ews, Obc, Sc, St, Dereserved}
+use Rattle.office_base.specs.declared.step.StepKind.TheVariants.{Dereserved}
 use Rattle.allocations.specs.Market.{rank_of}
 use Rattle.allocations.specs.Rule.{Grows}
 use Rattle.published_rounds.proofs.ListFronts.{more_is_no_worse}
-use Rattle.programme_lists.specs.Programme.{Admissions, IsProgrammeChoice, admitted_by, people_of, unfilled}
+use Rattle.programme_lists.specs.Programme.{Admissions, IsProgrammeChoice, people_of, step_of, unfilled}
 use Rattle.seat_matrix.specs.Matrix.{SeatTable, seats_in}
+use Rattle.seat_matrix.specs.Seats.{is_dereserved}
 use Rattle.seat_matrix.specs.declared.seats.ProgrammeSeats.{ProgrammeSeats}
 use Rattle.rounds.specs.Rule.{MayApplyIn, ProgrammesChooseWell, rule_of}
 use Rattle.rounds.proofs.Entrants.{market}
@@ -21,20 +23,21 @@ use Rattle.published_rounds.specs.Five.{IsChoiceOfFive, rule_of_five}
 use Rattle.published_rounds.specs.RuleLaws.{DereservationHurtNobody, DereservationHurtsNobody}
 
 module _ (version : ℕ) (seats : ProgrammeSeats) (applicants : List Person) (admissions : Admissions) (choice : IsChoiceOfFive seats applicants admissions) where
-  -- the same five steps, and the last one behind them
-  abbrev with_last : Admissions
-  with_last = record admissions { dereserved = take (unfilled version seats admissions) (people_of seats.list applicants admissions Dereserved) }
+  -- the same steps, and the last one behind them
+  abbrev with_last : StepKind → List Person
+  with_last Dereserved = take (unfilled version seats admissions) (people_of seats.list applicants admissions Dereserved)
+  with_last kind = admissions kind
+
+  still_chosen : (kind : StepKind) → is_dereserved kind ≡ false → IsStepChoice (step_of seats applicants with_last kind) (with_last kind)
+  still_chosen Dereserved own = absurd (cc)
+  still_chosen kind own = choice.own kind own
 
   whole_choice : IsProgrammeChoice version seats applicants with_last
-  whole_choice = record { open_step = choice.open_step; ews = choice.ews; obc = choice.obc; sc = choice.sc; st = choice.st; dereserved = refl }
+  whole_choice = record { own = still_chosen; dereserved = refl }
 
-  still_admitted : (x : Person) (kind : StepKind) → IsAmong x (admitted_by admissions kind) → IsAmong x (admitted_by with_last kind)
-  still_admitted x Open here = here
-  still_admitted x Ews here = here
-  still_admitted x Obc here = here
-  still_admitted x Sc here = here
-  still_admitted x St here = here
+  still_admitted : (x : Person) (kind : StepKind) → IsAmong x (admissions kind) → IsAmong x (with_last kind)
   still_admitted x Dereserved here = absurd (subst (λ l. IsAmong x l) choice.nobody_else here)
+  still_admitted x kind here = here
 
 admits_still : (version : ℕ) (table : SeatTable) → Grows (rule_of_five table) (rule_of version table) (MayApplyIn table)
 admits_still version table p people x may admits =

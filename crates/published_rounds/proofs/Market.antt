@@ -1,9 +1,10 @@
 -- Fair seats over a matrix: who has one of a step is whom the step admits, so what holds of a programme's choice holds of the round.
-use Rattle.std.proofs.Common.{false, ◌≡◌, ◌<◌, ◌≤◌, inl, inr, ℕ, true, List, Option, Some, None, length, arith, refl, sym, ap, ◌∙◌, subst, ◌==◌, ◌+◌, Bool, [], ◌∷◌, count_by}
-use Rattle.std.specs.Prelude.{◌&&◌, slice_get}
+use Rattle.std.proofs.Common.{false, ◌≡◌, ◌<◌, ◌≤◌, inl, inr, ℕ, true, List, Option, Some, None, length, arith, refl, sym, ap, ◌∙◌, subst, ◌==◌, ◌+◌, Bool, [], ◌∷◌, suc, cond, count_by, if◌then◌else◌}
+use Rattle.std.specs.Prelude.{◌&&◌, slice_get, sum_by}
 use Rattle.std.specs.List.{filter}
 use Rattle.std.proofs.lemmas.Bool.{cond-false, cond-true, and_from, cases_Bool, cases_lt, eq-eqb, eqb-true, lt-ltb, ltb-true}
-use Rattle.std.proofs.lemmas.List.Sums.{length-filter}
+use Rattle.std.proofs.lemmas.List.Sums.{length-filter, sum-map, sum_by-cons}
+use Rattle.office_base.specs.CategorySteps.{all_steps}
 use Rattle.office_base.specs.Lists.{IsAmong, IsSublist}
 use Rattle.office_base.specs.Merit.{in_merit}
 use Rattle.office_base.specs.Person.{IsBetter, number_in}
@@ -12,7 +13,7 @@ use Rattle.office_base.specs.declared.asks.Seat.{Seat}
 use Rattle.office_base.specs.declared.person.CandId.{CandId}
 use Rattle.office_base.specs.declared.person.Person.{Person}
 use Rattle.office_base.specs.declared.step.StepKind.{StepKind}
-use Rattle.office_base.specs.declared.step.StepKind.TheVariants.{Open, Ews, Obc, Sc, St, Dereserved}
+use Rattle.office_base.specs.declared.step.StepKind.TheVariants.{Dereserved}
 use Rattle.placements.proofs.Convert.{same_cand}
 use Rattle.placements.proofs.Merit.{not_ahead}
 use Rattle.placements.proofs.Ranks.{among_again, are_among, ranked_sublist, widen}
@@ -31,6 +32,7 @@ use Rattle.programme_laws.specs.Laws.{AdmittedMayStand, EmptySeatsRefuseNobody, 
 use Rattle.open_then_category.specs.Laws.{OneProgrammeChoice, ProgrammeChoiceExists, admitted_in_all}
 use Rattle.seat_matrix.specs.Matrix.{SeatTable, list_in, seating_in, seats_in}
 use Rattle.rounds.specs.Rule.{MayApplyIn, ProgrammesChooseWell, rule_of}
+use Rattle.office_moves.proofs.Sums.{one_more}
 use Rattle.published_rounds.specs.Published.{AreWithin, is_seat_under, seats_under}
 use Rattle.published_rounds.proofs.Places.{seat_there_is}
 use Rattle.published_rounds.proofs.Within.{as_many, in_order, last_seats, left_falls, under_is, under_of}
@@ -51,47 +53,22 @@ pub longer_by : (f : Option Seat → Bool) (b : Bool) (x : Option Seat) (xs : Li
 longer_by f true x xs e = ap length (cond-true (f x) (x ∷ filter f xs) (filter f xs) e) ∙ omega arith
 longer_by f false x xs e = ap length (cond-false (f x) (x ∷ filter f xs) (filter f xs) e) ∙ omega arith
 
--- each seat of the programme is under one step
-one_of_six : (b : Bool) (kind : StepKind)
-    → one_for b ≡ one_for (b && (step_number kind == step_number Open)) + one_for (b && (step_number kind == step_number Ews)) + one_for (b && (step_number kind == step_number Obc))
-    + one_for (b && (step_number kind == step_number Sc)) + one_for (b && (step_number kind == step_number St)) + one_for (b && (step_number kind == step_number Dereserved))
-one_of_six false kind = refl
-one_of_six true Open = refl
-one_of_six true Ews = refl
-one_of_six true Obc = refl
-one_of_six true Sc = refl
-one_of_six true St = refl
-one_of_six true Dereserved = refl
-
-filtered_by_steps : (p : ℕ) (seats : List (Option Seat)) → length (filter (is_of p) seats)
-    ≡ length (filter (is_seat_under p Open) seats) + length (filter (is_seat_under p Ews) seats) + length (filter (is_seat_under p Obc) seats)
-    + length (filter (is_seat_under p Sc) seats) + length (filter (is_seat_under p St) seats) + length (filter (is_seat_under p Dereserved) seats)
-filtered_by_steps p [] = refl
-filtered_by_steps p (None ∷ seats) = filtered_by_steps p seats
-filtered_by_steps p (Some x ∷ seats) =
-    let rest = filtered_by_steps p seats in
-    let all = longer_by (is_of p) (x.prog.0 == p) (Some x) seats refl in
-    let open_step = longer_by (is_seat_under p Open) (x.prog.0 == p && (step_number x.step == step_number Open)) (Some x) seats refl in
-    let ews = longer_by (is_seat_under p Ews) (x.prog.0 == p && (step_number x.step == step_number Ews)) (Some x) seats refl in
-    let obc = longer_by (is_seat_under p Obc) (x.prog.0 == p && (step_number x.step == step_number Obc)) (Some x) seats refl in
-    let sc = longer_by (is_seat_under p Sc) (x.prog.0 == p && (step_number x.step == step_number Sc)) (Some x) seats refl in
-    let st = longer_by (is_seat_under p St) (x.prog.0 == p && (step_number x.step == step_number St)) (Some x) seats refl in
-    let last = longer_by (is_seat_under p Dereserved) (x.prog.0 == p && (step_number x.step == step_number Dereserved)) (Some x) seats refl in
-    let one = one_of_six (x.prog.0 == p) x.step in
-    omega (arith, rest, all, open_step, ews, obc, sc, st, last, one)
-
-by_steps : (p : ℕ) (seats : List (Option Seat)) → count_by (is_of p) seats
-    ≡ seats_under p Open seats + seats_under p Ews seats + seats_under p Obc seats + seats_under p Sc seats + seats_under p St seats + seats_under p Dereserved seats
-by_steps p seats =
-    let sum = filtered_by_steps p seats in
-    let all = length-filter (is_of p) seats in
-    let open_step = length-filter (is_seat_under p Open) seats in
-    let ews = length-filter (is_seat_under p Ews) seats in
-    let obc = length-filter (is_seat_under p Obc) seats in
-    let sc = length-filter (is_seat_under p Sc) seats in
-    let st = length-filter (is_seat_under p St) seats in
-    let last = length-filter (is_seat_under p Dereserved) seats in
-    omega (arith, sum, all, open_step, ews, obc, sc, st, last)
+by_steps : (p : ℕ) (seats : List (Option Seat)) → count_by (is_of p) seats ≡ sum_by (λ step. seats_under p step seats) all_steps
+by_steps p [] = refl
+by_steps p (None ∷ seats) = by_steps p seats
+by_steps p (Some x ∷ seats) =
+    let of_it : Bool = x.prog.0 == p in
+    let all = counted (is_of p) (Some x) seats in
+    let each : (λ (step : StepKind). seats_under p step (Some x ∷ seats)) ≡ (λ (step : StepKind). if of_it && (step_number x.step == step_number step) then suc (seats_under p step seats) else seats_under p step seats) =
+    λ i step. counted (is_seat_under p step) (Some x) seats i in
+    all ∙ (one_more x.step of_it (λ step. seats_under p step seats) (count_by (is_of p) seats) (by_steps p seats) ∙ ap (λ f. sum_by f all_steps) (sym each))
+  where
+    counted : (f : Option Seat → Bool) (x : Option Seat) (xs : List (Option Seat)) → count_by f (x ∷ xs) ≡ (if f x then suc (count_by f xs) else count_by f xs)
+    counted f x xs = sum_by-cons (λ x. cond (f x) 1 0) x xs ∙ one (f x) (count_by f xs)
+      where
+        one : (b : Bool) (n : ℕ) → cond b 1 0 + n ≡ (if b then suc n else n)
+        one true n = omega arith
+        one false n = omega arith
 
 module _ (well : ProgrammesChooseWell) (exists : ProgrammeChoiceExists) (one : OneProgrammeChoice) (version : ℕ) (table : SeatTable) (seekers : List Seeker) (seats : List (Option Seat))
     (over : AreFairOver version table seekers seats) where
@@ -218,14 +195,7 @@ module _ (well : ProgrammesChooseWell) (exists : ProgrammeChoiceExists) (one : O
   pub in_all : (p : ℕ) → p < count → (admissions : Admissions) × ChoosesFrom version (seats_in table p) (all p) admissions × (admitted_in_all admissions ≡ count_by (is_of p) seats)
   in_all p below =
       let c = chosen p below in
-      let open_step = given_count p below Open in
-      let ews = given_count p below Ews in
-      let obc = given_count p below Obc in
-      let sc = given_count p below Sc in
-      let st = given_count p below St in
-      let last = given_count p below Dereserved in
-      let sum = by_steps p seats in
-      (c.admissions, c.choice, omega (arith, open_step, ews, obc, sc, st, last, sum))
+      (c.admissions, c.choice, sum-map (λ step. length (c.admissions step)) all_steps ∙ (ap (λ f. sum_by f all_steps) (λ i step. given_count p below step i) ∙ sym (by_steps p seats)))
 
   pub are_within : (p : ℕ) → p < count → AreWithin version table p seats
   are_within p below =
@@ -235,29 +205,19 @@ module _ (well : ProgrammesChooseWell) (exists : ProgrammeChoiceExists) (one : O
         dereserved =
             let a = given_count p below Dereserved in
             let b = last_seats version table p (all p) c.admissions c.choice in
-            let ews = given_count p below Ews in
-            let obc = given_count p below Obc in
-            let l = left_falls version (seating_in table p Ews).seats (seats_under p Ews seats) (length c.admissions.ews) (seating_in table p Obc).seats
-            (seats_under p Obc seats) (length c.admissions.obc) (omega (arith, ews)) (omega (arith, obc)) in
+            let l = left_falls version (λ step. (seating_in table p step).seats) (λ step. seats_under p step seats) (λ step. length (c.admissions step)) (λ step. let g = given_count p below step in omega (arith, g)) in
             omega (arith, a, b, l);
       }
 
   -- a step with a seat left admits fewer than it fills
   admits_fewer : (p : ℕ) (below : p < count) (step : StepKind) → HasSeatLeft version table p seats step
       → length (admitted_by (chosen p below).admissions step) < seats_filled version (seats_in table p) (chosen p below).admissions step
-  admits_fewer p below Open left = let a = given_count p below Open in omega (arith, a, left)
-  admits_fewer p below Ews left = let a = given_count p below Ews in omega (arith, a, left)
-  admits_fewer p below Obc left = let a = given_count p below Obc in omega (arith, a, left)
-  admits_fewer p below Sc left = let a = given_count p below Sc in omega (arith, a, left)
-  admits_fewer p below St left = let a = given_count p below St in omega (arith, a, left)
   admits_fewer p below Dereserved left =
       let c = chosen p below in
       let a = given_count p below Dereserved in
-      let ews = given_count p below Ews in
-      let obc = given_count p below Obc in
-      let l = left_falls version (seating_in table p Ews).seats (length c.admissions.ews) (seats_under p Ews seats) (seating_in table p Obc).seats
-      (length c.admissions.obc) (seats_under p Obc seats) (omega (arith, ews)) (omega (arith, obc)) in
+      let l = left_falls version (λ step. (seating_in table p step).seats) (λ step. length (c.admissions step)) (λ step. seats_under p step seats) (λ step. let g = given_count p below step in omega (arith, g)) in
       omega (arith, a, left, l)
+  admits_fewer p below kind left = let a = given_count p below kind in omega (arith, a, left)
 
   pub not_wasted : EmptySeatsRefuseNobody → (p i : ℕ) (step : StepKind) (s : Seeker) (seat : Option Seat) → HasSeatLeft version table p seats step → slice_get seekers i ≡ Some s
       → slice_get seats i ≡ Some seat → place_of s.list p < length s.list → MayStandFor (list_in table p) step s.person → rank_of s.list seat ≤ place_of s.list p

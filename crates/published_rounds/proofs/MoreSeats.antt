@@ -1,27 +1,31 @@
 -- With more seats a programme admits from the same people at most as many more as there are seats more.
-use Rattle.std.proofs.Common.{◌≡◌, ◌≤◌, ◌+◌, ◌-◌, ◌==◌, inl, inr, ℕ, Bool, true, false, List, length, min, not, arith, refl, ap, ◌∙◌, if◌then◌else◌}
+use Rattle.std.proofs.Common.{◌≡◌, ◌≤◌, ◌+◌, ◌-◌, inl, inr, ℕ, Bool, true, false, List, [], ◌∷◌, Option, Some, None, length, map, min, not, arith, refl, ap, ◌∙◌, if◌then◌else◌}
+use Rattle.std.specs.Prelude.{sum_by}
 use Rattle.std.specs.List.{filter}
 use Rattle.std.proofs.lemmas.List.{length-take}
+use Rattle.std.proofs.lemmas.List.Sums.{sum-map}
+use Rattle.office_base.specs.CategorySteps.{category_steps, gives_up, own_steps, row_of}
 use Rattle.office_base.specs.Lists.{IsAmong, IsSublist}
 use Rattle.office_base.specs.Person.{is_common}
 use Rattle.office_base.specs.StepChoice.{AreRanked, IsStep, IsStepChoice}
-use Rattle.office_base.specs.declared.person.Category.{Category}
-use Rattle.office_base.specs.declared.person.Category.TheVariants.{Ews, Obc, Sc, St}
+use Rattle.office_base.specs.declared.category_steps.CategoryStep.{CategoryStep}
 use Rattle.office_base.specs.declared.person.Person.{Person}
 use Rattle.office_base.specs.declared.step.StepKind.{StepKind}
-use Rattle.office_base.specs.declared.step.StepKind.TheVariants.{Open, Ews as EwsStep, Obc as ObcStep, Sc as ScStep, St as StStep, Dereserved}
-use Rattle.placements.specs.Ranks.{AreAmong}
+use Rattle.office_base.specs.declared.step.StepKind.TheVariants.{Open, Dereserved}
 use Rattle.placements.proofs.Filters.{among_filter, among_filter_from, filter-sublist, filter_mono}
 use Rattle.placements.proofs.Ranks.{among_sublist, ranked_sublist, widen}
 use Rattle.placements.proofs.Sublists.{IsSublist-same, length-sublist, sublist_again}
 use Rattle.merit_choice.specs.Laws.{ChoiceExists, ChoiceSize, MoreSeats, RefusedStaysRefused}
 use Rattle.merit_choice.proofs.Needed.{decides, nobody_of}
-use Rattle.seat_matrix.specs.Seats.{AreProgrammeSeats, HaveMoreSeats, seats_of}
+use Rattle.seat_matrix.specs.Seats.{AreProgrammeSeats, HaveMoreSeats, is_dereserved, seats_of}
 use Rattle.seat_matrix.specs.declared.seats.ProgrammeSeats.{ProgrammeSeats}
 use Rattle.seat_matrix.specs.declared.seats.Seatings.{Seatings}
-use Rattle.programme_lists.specs.Programme.{Admissions, IsProgrammeChoice, is_of, is_taken, left_over, people_of, step_with, unfilled, without}
+use Rattle.programme_lists.specs.Programme.{Admissions, IsProgrammeChoice, is_of, is_taken, left_by, left_over, members_by, people_of, step_with, unfilled, without}
+use Rattle.programme_lists.proofs.Table.{IsRow, row_facts}
 use Rattle.programme_lists.proofs.Taken.{among_without, taken_among, taken_from}
 use Rattle.open_then_category.specs.Laws.{admitted_in_all}
+use Rattle.programme_lists.proofs.Parts.{people_part}
+use Rattle.office_moves.proofs.Sums.{rows_less, rows_plus}
 
 -- who is not taken by more is not taken by fewer
 untaken : (b c : Bool) → (b ≡ true → c ≡ true) → not c ≡ true → not b ≡ true
@@ -71,66 +75,61 @@ module _ (more_seats : MoreSeats) (refused : RefusedStaysRefused) (exists : Choi
         people = refl;
       }) middle.1 second kept
 
-  common_part : IsSublist (filter (is_common seats.list) all) all
-  common_part = filter-sublist (is_common seats.list) all
+  a_part : (kind : StepKind) → is_dereserved kind ≡ false → IsSublist (a kind) all
+  a_part kind own = sublist_again (a kind) _ all (choice.own kind own).may.people (people_part seats.list all a kind)
 
-  a_within : AreAmong a.open_step all
-  a_within = among_sublist a.open_step all (sublist_again a.open_step _ all choice.open_step.may.people common_part)
-
-  open_kept : (x : Person) → IsAmong x a.open_step → IsAmong x b.open_step
+  open_kept : (x : Person) → IsAmong x (a Open) → IsAmong x (b Open)
   open_kept x here =
-      still_chosen Open (filter (is_common seats.list) all) (filter (is_common seats.list) all) a.open_step b.open_step x common_part (IsSublist-same _) choice.open_step choice'.open_step
-      (widen x a.open_step _ (among_sublist a.open_step _ choice.open_step.may.people) here) here
+      still_chosen Open (filter (is_common seats.list) all) (filter (is_common seats.list) all) (a Open) (b Open) x (filter-sublist _ all) (IsSublist-same _) (choice.own Open refl) (choice'.own Open refl)
+      (widen x (a Open) _ (among_sublist (a Open) _ (choice.own Open refl).may.people) here) here
 
-  taken_kept : (x : Person) → IsAmong x all → is_taken a.open_step x ≡ true → is_taken b.open_step x ≡ true
-  taken_kept x there e = taken_from x b.open_step (open_kept x (taken_among all a.open_step x ranked.distinct a_within there e))
+  rest_part : IsSublist (without all (b Open)) (without all (a Open))
+  rest_part = filter_mono (λ x. not (is_taken (b Open) x)) (λ x. not (is_taken (a Open) x)) all all (IsSublist-same all)
+      (λ x there e. untaken (is_taken (a Open) x) (is_taken (b Open) x)
+      (λ taken. taken_from x (b Open) (open_kept x (taken_among all (a Open) x ranked.distinct (among_sublist (a Open) all (a_part Open refl)) there taken))) e)
 
-  rest_part : IsSublist (without all b.open_step) (without all a.open_step)
-  rest_part = filter_mono (λ x. not (is_taken b.open_step x)) (λ x. not (is_taken a.open_step x)) all all (IsSublist-same all)
-      (λ x there e. untaken (is_taken a.open_step x) (is_taken b.open_step x) (taken_kept x there) e)
+  -- with more seats no more people stand for a step
+  members_part : (row : Option CategoryStep) → IsSublist (members_by row (without all (b Open))) (members_by row (without all (a Open)))
+  members_part None = IsSublist-same []
+  members_part (Some row) = filter_mono (is_of row.category) (is_of row.category) (without all (b Open)) (without all (a Open)) rest_part (λ x there e. e)
 
-  members_part : (category : Category) → IsSublist (filter (is_of category) (without all b.open_step)) (filter (is_of category) (without all a.open_step))
-  members_part category = filter_mono (is_of category) (is_of category) (without all b.open_step) (without all a.open_step) rest_part (λ x there e. e)
+  step_part : (kind : StepKind) → is_dereserved kind ≡ false → IsSublist (people_of seats.list all b kind) (people_of seats.list all a kind)
+  step_part Open own = IsSublist-same _
+  step_part Dereserved own = absurd (cc)
+  step_part kind own = members_part (row_of kind)
 
-  rest_within : IsSublist (without all a.open_step) all
-  rest_within = filter-sublist _ all
+  -- and who stood for a category's step still does, if the open step leaves them
+  member_stands : (row : Option CategoryStep) (x : Person) → IsAmong x (without all (b Open)) → IsAmong x (members_by row (without all (a Open))) → IsAmong x (members_by row (without all (b Open)))
+  member_stands None x left stood = absurd stood
+  member_stands (Some row) x left stood = among_filter_from (is_of row.category) x (without all (b Open)) left (among_filter (is_of row.category) x (without all (a Open)) stood).1
 
-  members_within : (category : Category) → IsSublist (filter (is_of category) (without all a.open_step)) all
-  members_within category = sublist_again _ (without all a.open_step) all (filter-sublist (is_of category) (without all a.open_step)) rest_within
+  still_stands : (kind : StepKind) → is_dereserved kind ≡ false → (kind ≡ Open → ⊥) → (x : Person) → IsAmong x (without all (b Open)) → IsAmong x (people_of seats.list all a kind)
+      → IsAmong x (people_of seats.list all b kind)
+  still_stands Open own category x left stood = absurd (category refl)
+  still_stands Dereserved own category x left stood = absurd (cc)
+  still_stands kind own category x left stood = member_stands (row_of kind) x left stood
 
   -- a member whom the open seats leave keeps the category's seat
-  member_kept : (kind : StepKind) (category : Category) (chosen others : List Person) → IsStepChoice (step_with seats.list (seats_of seats kind) (filter (is_of category) (without all a.open_step))) chosen
-      → IsStepChoice (step_with seats.list (seats_of more kind) (filter (is_of category) (without all b.open_step))) others
-      → (x : Person) → IsAmong x (without all b.open_step) → is_taken chosen x ≡ true → is_taken others x ≡ true
-  member_kept kind category chosen others first second x left e =
-      let there = (among_without x all b.open_step left).0 in
-      let within = among_sublist chosen all (sublist_again chosen _ all first.may.people (members_within category)) in
-      let here = taken_among all chosen x ranked.distinct within there e in
-      let stood = widen x chosen _ (among_sublist chosen _ first.may.people) here in
-      let of_it = (among_filter (is_of category) x (without all a.open_step) stood).1 in
-      taken_from x others (still_chosen kind (filter (is_of category) (without all a.open_step)) (filter (is_of category) (without all b.open_step)) chosen others x (members_within category)
-      (members_part category) first second (among_filter_from (is_of category) x (without all b.open_step) left of_it) here)
+  member_kept : (kind : StepKind) → is_dereserved kind ≡ false → (kind ≡ Open → ⊥) → (x : Person) → IsAmong x (without all (b Open)) → is_taken (a kind) x ≡ true → is_taken (b kind) x ≡ true
+  member_kept kind own category x left e =
+      let there = (among_without x all (b Open) left).0 in
+      let here = taken_among all (a kind) x ranked.distinct (among_sublist (a kind) all (a_part kind own)) there e in
+      let stood = widen x (a kind) _ (among_sublist (a kind) _ (choice.own kind own).may.people) here in
+      taken_from x (b kind) (still_chosen kind (people_of seats.list all a kind) (people_of seats.list all b kind) (a kind) (b kind) x (people_part seats.list all a kind)
+      (step_part kind own) (choice.own kind own) (choice'.own kind own) (still_stands kind own category x left stood) here)
 
-  -- the ones of some people whom a step leaves are those whom it left before
-  left_part : (people fewer chosen others : List Person) → IsSublist fewer people → IsSublist fewer (without all b.open_step)
-      → ((x : Person) → IsAmong x (without all b.open_step) → is_taken chosen x ≡ true → is_taken others x ≡ true) → IsSublist (without fewer others) (without people chosen)
-  left_part people fewer chosen others less from kept =
-      filter_mono (λ x. not (is_taken others x)) (λ x. not (is_taken chosen x)) fewer people less
-      (λ x there e. untaken (is_taken chosen x) (is_taken others x) (kept x (widen x fewer _ (among_sublist fewer _ from) there)) e)
-
-  further : (people taken from : List Person) → IsSublist people from → IsSublist (without people taken) from
-  further people taken from part = sublist_again _ people from (filter-sublist _ people) part
+  -- the ones of some people whom the steps of categories leave are those whom they left before
+  all_kept : (rows : List CategoryStep) (people fewer : List Person) → ((row : CategoryStep) → IsAmong row rows → IsRow row) → IsSublist fewer people → IsSublist fewer (without all (b Open))
+      → IsSublist (left_by (map (λ row. row.step) rows) fewer b) (left_by (map (λ row. row.step) rows) people a)
+  all_kept [] people fewer are less from = less
+  all_kept (row ∷ rows) people fewer are less from =
+      let facts = row_facts row (are row (inl refl)) in
+      let left = filter_mono (λ x. not (is_taken (b row.step) x)) (λ x. not (is_taken (a row.step) x)) fewer people less
+      (λ x there e. untaken (is_taken (a row.step) x) (is_taken (b row.step) x) (member_kept row.step facts.own facts.not_open x (widen x fewer _ (among_sublist fewer _ from) there)) e) in
+      all_kept rows (without people (a row.step)) (without fewer (b row.step)) (λ other there. are other (inr there)) left (sublist_again _ fewer _ (filter-sublist _ fewer) from)
 
   all_left : IsSublist (left_over all b) (left_over all a)
-  all_left =
-      let r0 = IsSublist-same (without all b.open_step) in
-      let ews = left_part (without all a.open_step) (without all b.open_step) a.ews b.ews rest_part r0 (member_kept EwsStep Ews a.ews b.ews choice.ews choice'.ews) in
-      let r1 = further (without all b.open_step) b.ews (without all b.open_step) r0 in
-      let obc = left_part _ (without (without all b.open_step) b.ews) a.obc b.obc ews r1 (member_kept ObcStep Obc a.obc b.obc choice.obc choice'.obc) in
-      let r2 = further (without (without all b.open_step) b.ews) b.obc (without all b.open_step) r1 in
-      let sc = left_part _ (without (without (without all b.open_step) b.ews) b.obc) a.sc b.sc obc r2 (member_kept ScStep Sc a.sc b.sc choice.sc choice'.sc) in
-      let r3 = further (without (without (without all b.open_step) b.ews) b.obc) b.sc (without all b.open_step) r2 in
-      left_part _ (without (without (without (without all b.open_step) b.ews) b.obc) b.sc) a.st b.st sc r3 (member_kept StStep St a.st b.st choice.st choice'.st)
+  all_left = all_kept category_steps (without all (a Open)) (without all (b Open)) (λ row there. there) rest_part (IsSublist-same _)
 
   -- ---- numbers
 
@@ -153,37 +152,41 @@ module _ (more_seats : MoreSeats) (refused : RefusedStaysRefused) (exists : Choi
       by : (c o s t r p q : ℕ) → c ≡ min s p → o ≡ min t q → q ≤ p → t ≡ s + r → o ≤ c + r
       by c o s t r p q one two size e = omega (arith, one, two, size, e)
 
-  few_members : (kind : StepKind) (category : Category) (chosen others : List Person) → IsStepChoice (step_with seats.list (seats_of seats kind) (filter (is_of category) (without all a.open_step))) chosen
-      → IsStepChoice (step_with seats.list (seats_of more kind) (filter (is_of category) (without all b.open_step))) others → length others ≤ length chosen + raise kind
-  few_members kind category chosen others first second =
-      few_more kind (filter (is_of category) (without all a.open_step)) (filter (is_of category) (without all b.open_step)) chosen others (members_within category) (members_part category) first second
+  few_of : (kind : StepKind) → is_dereserved kind ≡ false → length (b kind) ≤ length (a kind) + raise kind
+  few_of kind own =
+      few_more kind (people_of seats.list all a kind) (people_of seats.list all b kind) (a kind) (b kind) (people_part seats.list all a kind) (step_part kind own) (choice.own kind own) (choice'.own kind own)
+
+  -- those admitted under the steps of categories, and all seats of the categories whose empty ones are given away
+  few_rows : sum_by (λ row. length (b row.step)) category_steps ≤ sum_by (λ row. length (a row.step)) category_steps + sum_by (λ row. raise row.step) category_steps
+  few_rows =
+      let plus = rows_plus (λ row. length (a row.step)) (λ row. raise row.step) category_steps in
+      let less = rows_less (λ row. length (b row.step)) (λ row. length (a row.step) + raise row.step) category_steps (λ row there. few_of row.step (row_facts row there).own) in
+      omega (arith, plus, less)
+
+  few_seats : sum_by (λ row. length (b row.step)) category_steps + unfilled version more b
+      ≤ sum_by (λ row. length (a row.step)) category_steps + unfilled version seats a + sum_by (λ row. raise row.step) category_steps
+  few_seats =
+      let m : CategoryStep → ℕ = λ row. length (b row.step) in
+      let n : CategoryStep → ℕ = λ row. length (a row.step) in
+      let r : CategoryStep → ℕ = λ row. raise row.step in
+      let u : CategoryStep → ℕ = λ row. if gives_up row version then (seats_of more row.step).seats - m row else 0 in
+      let v : CategoryStep → ℕ = λ row. if gives_up row version then (seats_of seats row.step).seats - n row else 0 in
+      let less = rows_less (λ row. m row + u row) (λ row. (n row + v row) + r row) category_steps (λ row there.
+      let own = (row_facts row there).own in
+      by (gives_up row version) (m row) (n row) (r row) (seats_of seats row.step).seats (seats_of more row.step).seats (few_of row.step own) (raise_is row.step)
+      (choice.own row.step own).may.seats (choice'.own row.step own).may.seats) in
+      omega (arith, less, rows_plus m u category_steps, rows_plus n v category_steps, rows_plus (λ row. n row + v row) r category_steps, sum-map u category_steps, sum-map v category_steps)
+    where
+      by : (g : Bool) (m n r s t : ℕ) → m ≤ n + r → t ≡ s + r → n ≤ s → m ≤ t → m + (if g then t - m else 0) ≤ (n + (if g then s - n else 0)) + r
+      by true m n r s t few more first second = omega (arith, few, more, first, second)
+      by false m n r s t few more first second = omega (arith, few)
 
   -- where D is short of people it admits no more; where it is short of seats, all seats of its categories are counted
-  summed : (v : Bool) (o o' e e' c c' s s' t t' d d' se se' so so' people people' r0 r1 r2 r3 r4 ue ue' uo uo' : ℕ) → o' ≤ o + r0 → e' ≤ e + r1 → c' ≤ c + r2 → s' ≤ s + r3 → t' ≤ t + r4
-      → se' ≡ se + r1 → so' ≡ so + r2 → e + ue ≡ se → e' + ue' ≡ se' → c + uo ≡ so → c' + uo' ≡ so' → people' ≤ people
-      → d ≡ min (uo + (if v then ue else 0)) people → d' ≡ min (uo' + (if v then ue' else 0)) people'
-      → o' + e' + c' + s' + t' + d' ≤ o + e + c + s + t + d + (r0 + r1 + r2 + r3 + r4)
-  summed true o o' e e' c c' s s' t t' d d' se se' so so' people people' r0 r1 r2 r3 r4 ue ue' uo uo' h0 h1 h2 h3 h4 q1 q2 a1 a2 a3 a4 less m m' =
-      omega (arith, h0, h1, h2, h3, h4, q1, q2, a1, a2, a3, a4, less, m, m')
-  summed false o o' e e' c c' s s' t t' d d' se se' so so' people people' r0 r1 r2 r3 r4 ue ue' uo uo' h0 h1 h2 h3 h4 q1 q2 a1 a2 a3 a4 less m m' =
-      omega (arith, h0, h1, h2, h3, h4, q1, q2, a1, a2, a3, a4, less, m, m')
-
-  pub at_most_raised : admitted_in_all b ≤ admitted_in_all a + (raise Open + raise EwsStep + raise ObcStep + raise ScStep + raise StStep)
+  pub at_most_raised : admitted_in_all b ≤ admitted_in_all a + sum_by raise own_steps
   at_most_raised =
       let people = people_of seats.list all a Dereserved in
       let people' = people_of seats.list all b Dereserved in
       let less = length-sublist people' people (filter_mono (is_common seats.list) (is_common seats.list) (left_over all b) (left_over all a) all_left (λ x there e. e)) in
       let m = ap (λ (l : List Person). length l) choice.dereserved ∙ length-take (unfilled version seats a) people in
       let m' = ap (λ (l : List Person). length l) choice'.dereserved ∙ length-take (unfilled version more b) people' in
-      let e1 = choice.ews.may.seats in
-      let e2 = choice'.ews.may.seats in
-      let e3 = choice.obc.may.seats in
-      let e4 = choice'.obc.may.seats in
-      summed (version == 2) (length a.open_step) (length b.open_step) (length a.ews) (length b.ews) (length a.obc) (length b.obc) (length a.sc) (length b.sc) (length a.st) (length b.st)
-      (length a.dereserved) (length b.dereserved) (seats_of seats EwsStep).seats (seats_of more EwsStep).seats (seats_of seats ObcStep).seats (seats_of more ObcStep).seats
-      (length people) (length people') (raise Open) (raise EwsStep) (raise ObcStep) (raise ScStep) (raise StStep)
-      ((seats_of seats EwsStep).seats - length a.ews) ((seats_of more EwsStep).seats - length b.ews) ((seats_of seats ObcStep).seats - length a.obc) ((seats_of more ObcStep).seats - length b.obc)
-      (few_more Open (filter (is_common seats.list) all) (filter (is_common seats.list) all) a.open_step b.open_step common_part (IsSublist-same _) choice.open_step choice'.open_step)
-      (few_members EwsStep Ews a.ews b.ews choice.ews choice'.ews) (few_members ObcStep Obc a.obc b.obc choice.obc choice'.obc)
-      (few_members ScStep Sc a.sc b.sc choice.sc choice'.sc) (few_members StStep St a.st b.st choice.st choice'.st) (raise_is EwsStep) (raise_is ObcStep)
-      (omega (arith, e1)) (omega (arith, e2)) (omega (arith, e3)) (omega (arith, e4)) less m m'
+      omega (arith, less, m, m', few_of Open refl, few_rows, few_seats)

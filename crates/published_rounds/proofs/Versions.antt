@@ -1,10 +1,18 @@
 -- In version 2 a programme admits whom it admits in another version, so it hurts nobody.
-use Rattle.std.proofs.Common.{◌≡◌, ◌≤◌, ◌+◌, ◌-◌, inl, inr, ℕ, zero, suc, Bool, true, false, List, [], ◌∷◌, Some, length, take, arith, refl, sym, ap, ◌∙◌, subst, ◌==◌, if◌then◌else◌}
+use Rattle.std.proofs.Common.{◌≡◌, ◌≤◌, ◌-◌, inl, inr, ℕ, zero, suc, Bool, true, false, List, [], ◌∷◌, Some, length, take, arith, refl, sym, ap, ◌∙◌, subst, not, ◌==◌, ◌||◌, if◌then◌else◌}
+use Rattle.std.specs.List.{list_all}
 use Rattle.std.specs.Option.{option_and_then}
+use Rattle.std.proofs.lemmas.Bool.{and_parts}
+use Rattle.std.proofs.lemmas.List.Sums.{sum-map}
+use Rattle.office_base.specs.CategorySteps.{category_steps, gives_away, gives_up}
 use Rattle.office_base.specs.Lists.{IsAmong}
+use Rattle.office_base.specs.StepChoice.{IsStepChoice}
+use Rattle.office_base.specs.declared.category_steps.CategoryStep.{CategoryStep}
+use Rattle.office_base.specs.declared.category_steps.GivesUp.{GivesUp}
+use Rattle.office_base.specs.declared.category_steps.GivesUp.TheVariants.{Never, InVersion, Always}
 use Rattle.office_base.specs.declared.person.Person.{Person}
 use Rattle.office_base.specs.declared.step.StepKind.{StepKind}
-use Rattle.office_base.specs.declared.step.StepKind.TheVariants.{Open, Ews, Obc, Sc, St, Dereserved}
+use Rattle.office_base.specs.declared.step.StepKind.TheVariants.{Dereserved}
 use Rattle.office_base.specs.Merit.{in_merit}
 use Rattle.office_base.proofs.People.{at_person-get}
 use Rattle.allocations.specs.Compared.{SomeLeave}
@@ -12,8 +20,9 @@ use Rattle.allocations.specs.Market.{Seeker, rank_of}
 use Rattle.allocations.specs.Rule.{Grows}
 use Rattle.allocations.proofs.Eased.{hurts_nobody}
 use Rattle.allocations.proofs.Those.{value_at}
-use Rattle.programme_lists.specs.Programme.{Admissions, IsProgrammeChoice, admitted_by, people_of, unfilled}
+use Rattle.programme_lists.specs.Programme.{Admissions, IsProgrammeChoice, people_of, step_of, unfilled}
 use Rattle.seat_matrix.specs.Matrix.{SeatTable, seats_in}
+use Rattle.seat_matrix.specs.Seats.{is_dereserved, seats_of}
 use Rattle.seat_matrix.specs.Unfilled.{left_unfilled}
 use Rattle.seat_matrix.specs.declared.seats.ProgrammeSeats.{ProgrammeSeats}
 use Rattle.rounds.specs.Rule.{MayApplyIn, ProgrammesChooseWell, rule_of}
@@ -21,6 +30,8 @@ use Rattle.rounds.proofs.Entrants.{market}
 use Rattle.office_moves.specs.Facts.{SeasonFacts, lists_in_order}
 use Rattle.office_moves.specs.Promise.{all_sought_then}
 use Rattle.office_moves.specs.State.{seat_of}
+use Rattle.office_moves.proofs.Sums.{rows_less}
+use Rattle.special_round.specs.Remaining.{ever_given, may_be_taken}
 use Rattle.published_rounds.specs.Published.{market_then, matrix_then, wanted_then}
 use Rattle.published_rounds.proofs.Places.{AreOrderly, course_of, in_round, made_then, may_enter, place_among}
 use Rattle.published_rounds.specs.RuleLaws.{VersionTwoHurtsNobody, VersionTwoWouldHurtNobody}
@@ -34,31 +45,51 @@ take_more (suc n) zero people x within here = absurd (omega (arith, within))
 take_more (suc n) (suc m) [] x within here = absurd here
 take_more (suc n) (suc m) (y ∷ people) x within here = elim here [ inl is ↦ inl is | inr later ↦ inr (take_more n m people x (omega (arith, within)) later) ]
 
--- version 2 leaves no fewer seats to the de-reserved step
-left_more : (version ews_seats ews obc_seats obc : ℕ) → left_unfilled version ews_seats ews obc_seats obc ≤ left_unfilled 2 ews_seats ews obc_seats obc
-left_more version ews_seats ews obc_seats obc = by (version == 2)
+-- a category that gives its empty seats away in some version does so in version 2
+abbrev as_in_two : CategoryStep → Bool
+as_in_two row = not (may_be_taken row) || gives_up row 2
+
+all_pass : (rows : List CategoryStep) → list_all as_in_two rows ≡ true → (row : CategoryStep) → IsAmong row rows → as_in_two row ≡ true
+all_pass [] e row there = absurd there
+all_pass (first ∷ rows) e row there =
+    let parts = and_parts (as_in_two first) (list_all as_in_two rows) e in
+    elim there [ inl same ↦ subst (λ r. as_in_two r ≡ true) (sym same) parts.0 | inr later ↦ all_pass rows parts.1 row later ]
+
+more_of : (version n : ℕ) (given : GivesUp) → (not (ever_given given) || gives_away given 2) ≡ true → (if gives_away given version then n else 0) ≤ (if gives_away given 2 then n else 0)
+more_of version n Never e = omega arith
+more_of version n (InVersion only) e = subst (λ b. (if version == only then n else 0) ≤ (if b then n else 0)) (sym e) (most (version == only))
   where
-    by : (b : Bool) → (obc_seats - obc) + (if b then ews_seats - ews else 0) ≤ (obc_seats - obc) + (ews_seats - ews)
-    by true = omega arith
-    by false = omega arith
+    most : (b : Bool) → (if b then n else 0) ≤ n
+    most true = omega arith
+    most false = omega arith
+more_of version n Always e = omega arith
+
+-- version 2 leaves no fewer seats to the de-reserved step
+left_more : (version : ℕ) (seats held : StepKind → ℕ) → left_unfilled version seats held ≤ left_unfilled 2 seats held
+left_more version seats held =
+    let first : CategoryStep → ℕ = λ row. if gives_up row version then seats row.step - held row.step else 0 in
+    let second : CategoryStep → ℕ = λ row. if gives_up row 2 then seats row.step - held row.step else 0 in
+    let less = rows_less first second category_steps (λ row there. more_of version (seats row.step - held row.step) row.gives_up (all_pass category_steps refl row there)) in
+    omega (arith, sum-map first category_steps, sum-map second category_steps, less)
 
 module _ (version : ℕ) (seats : ProgrammeSeats) (applicants : List Person) (admissions : Admissions) (choice : IsProgrammeChoice version seats applicants admissions) where
-  -- the same five steps, and more seats for the last
-  abbrev wider : Admissions
-  wider = record admissions { dereserved = take (unfilled 2 seats admissions) (people_of seats.list applicants admissions Dereserved) }
+  -- the same steps, and more seats for the last
+  abbrev wider : StepKind → List Person
+  wider Dereserved = take (unfilled 2 seats admissions) (people_of seats.list applicants admissions Dereserved)
+  wider kind = admissions kind
+
+  still_chosen : (kind : StepKind) → is_dereserved kind ≡ false → IsStepChoice (step_of seats applicants wider kind) (wider kind)
+  still_chosen Dereserved own = absurd (cc)
+  still_chosen kind own = choice.own kind own
 
   wider_choice : IsProgrammeChoice 2 seats applicants wider
-  wider_choice = record { open_step = choice.open_step; ews = choice.ews; obc = choice.obc; sc = choice.sc; st = choice.st; dereserved = refl }
+  wider_choice = record { own = still_chosen; dereserved = refl }
 
-  still_admitted : (x : Person) (kind : StepKind) → IsAmong x (admitted_by admissions kind) → IsAmong x (admitted_by wider kind)
-  still_admitted x Open here = here
-  still_admitted x Ews here = here
-  still_admitted x Obc here = here
-  still_admitted x Sc here = here
-  still_admitted x St here = here
+  still_admitted : (x : Person) (kind : StepKind) → IsAmong x (admissions kind) → IsAmong x (wider kind)
   still_admitted x Dereserved here =
       take_more (unfilled version seats admissions) (unfilled 2 seats admissions) (people_of seats.list applicants admissions Dereserved) x
-      (left_more version _ (length admissions.ews) _ (length admissions.obc)) (subst (λ l. IsAmong x l) choice.dereserved here)
+      (left_more version (λ kind. (seats_of seats kind).seats) (λ kind. length (admissions kind))) (subst (λ l. IsAmong x l) choice.dereserved here)
+  still_admitted x kind here = here
 
 admits_still : (version : ℕ) (table : SeatTable) → Grows (rule_of version table) (rule_of 2 table) (MayApplyIn table)
 admits_still version table p people x may admits =

@@ -1,20 +1,21 @@
 -- No programme is over its seats in a published round: those who hold seats of a step are some of those whom it admits.
-use Rattle.std.proofs.Common.{◌≡◌, ◌<◌, ◌≤◌, ◌+◌, ◌-◌, ℕ, suc, Bool, true, false, List, [], ◌∷◌, Option, Some, None, length, arith, refl, sym, ap, ◌∙◌, subst, cond, ◌==◌, if◌then◌else◌}
+use Rattle.std.proofs.Common.{◌≡◌, ◌<◌, ◌≤◌, ◌-◌, ℕ, suc, Bool, true, false, List, [], ◌∷◌, Option, Some, None, length, arith, refl, sym, ap, ◌∙◌, subst, cond, ◌==◌, if◌then◌else◌}
 use Rattle.std.specs.Prelude.{slice_get}
 use Rattle.std.specs.List.{filter}
 use Rattle.std.proofs.lemmas.Bool.{and_parts, eqb-true}
 use Rattle.std.proofs.lemmas.List.{length-take}
-use Rattle.std.proofs.lemmas.List.Sums.{length-filter}
+use Rattle.std.proofs.lemmas.List.Sums.{length-filter, sum-map}
 use Rattle.office_base.proofs.StepNumbers.{one_number}
+use Rattle.office_base.specs.CategorySteps.{category_steps, gives_up}
 use Rattle.office_base.specs.Lists.{IsAmong, IsSublist}
 use Rattle.office_base.specs.Merit.{in_merit}
 use Rattle.office_base.specs.StepNumbers.{step_number}
 use Rattle.office_base.specs.declared.asks.Seat.{Seat}
+use Rattle.office_base.specs.declared.category_steps.CategoryStep.{CategoryStep}
 use Rattle.office_base.specs.declared.person.Person.{Person}
 use Rattle.office_base.specs.declared.step.StepKind.{StepKind}
-use Rattle.office_base.specs.declared.step.StepKind.TheVariants.{Open, Ews, Obc, Sc, St, Dereserved}
+use Rattle.office_base.specs.declared.step.StepKind.TheVariants.{Dereserved}
 use Rattle.office_base.proofs.Lists.{there_is}
-use Rattle.placements.proofs.Filters.{filter-sublist}
 use Rattle.placements.proofs.Ranks.{among_again, are_among, ranked_sublist}
 use Rattle.placements.proofs.Sublists.{IsSublist-take, length-sublist, sublist_again}
 use Rattle.merit_choice.proofs.InMerit.{in_merit_ranks, ranked_part}
@@ -23,7 +24,7 @@ use Rattle.allocations.proofs.Claims.{applicants_may}
 use Rattle.allocations.proofs.Places.{holder_applies, seat_same}
 use Rattle.allocations.proofs.Those.{of_those, part}
 use Rattle.programme_lists.specs.Chosen.{AdmitsUnder, ChoosesFrom}
-use Rattle.programme_lists.specs.Programme.{Admissions, admitted_by, left_over, people_of, unfilled}
+use Rattle.programme_lists.specs.Programme.{Admissions, admitted_by, people_of, unfilled}
 use Rattle.open_then_category.specs.Laws.{OneProgrammeChoice}
 use Rattle.seat_matrix.specs.Matrix.{SeatTable, list_in, seating_in, seats_in}
 use Rattle.seat_matrix.specs.Unfilled.{left_unfilled}
@@ -31,9 +32,11 @@ use Rattle.programme_lists.proofs.Seats.{own_seats}
 use Rattle.rounds.specs.Rule.{MayApplyIn, ProgrammesChooseWell, rule_of}
 use Rattle.rounds.specs.declared.round.Round.{Round}
 use Rattle.rounds.proofs.Entrants.{market}
+use Rattle.programme_lists.proofs.Parts.{people_part}
 use Rattle.office_moves.specs.Facts.{IsSound, SeasonFacts, lists_in_order}
 use Rattle.office_moves.specs.Promise.{all_sought_then}
 use Rattle.office_moves.specs.State.{State}
+use Rattle.office_moves.proofs.Sums.{rows_less}
 use Rattle.histories.specs.Course.{IsCourse}
 use Rattle.published_rounds.specs.Laws.{SeatsAreWithin}
 use Rattle.published_rounds.specs.Published.{AreWithin, is_seat_under, market_then, matrix_then, seats_under}
@@ -66,36 +69,32 @@ under_of prog step (Some seat) e = (and_parts (seat.prog.0 == prog) (step_number
 -- ---- whom a programme admits
 
 pub last_seats : (version : ℕ) (table : SeatTable) (prog : ℕ) (people : List Person) (admissions : Admissions) → ChoosesFrom version (seats_in table prog) people admissions
-    → length admissions.dereserved ≤ unfilled version (seats_in table prog) admissions
+    → length (admissions Dereserved) ≤ unfilled version (seats_in table prog) admissions
 last_seats version table prog people admissions choice =
     let same = ap (λ (l : List Person). length l) choice.dereserved in
     let few = length-take (unfilled version (seats_in table prog) admissions) (people_of (list_in table prog) (in_merit (list_in table prog) people) admissions Dereserved) in
     omega (arith, same, few)
 
 -- each step admits some of the applicants, by merit
-left_within : (all : List Person) (those : Admissions) → IsSublist (left_over all those) all
-left_within all those = sublist_again _ _ _ (filter-sublist _ _) (sublist_again _ _ _ (filter-sublist _ _) (sublist_again _ _ _ (filter-sublist _ _)
-    (sublist_again _ _ _ (filter-sublist _ _) (filter-sublist _ all))))
-
 pub in_order : (version : ℕ) (table : SeatTable) (prog : ℕ) (people : List Person) (admissions : Admissions) (step : StepKind) → ChoosesFrom version (seats_in table prog) people admissions
     → IsSublist (admitted_by admissions step) (in_merit (list_in table prog) people)
-in_order version table prog people admissions Open choice = sublist_again _ _ _ choice.open_step.may.people (filter-sublist _ _)
-in_order version table prog people admissions Ews choice = sublist_again _ _ _ choice.ews.may.people (sublist_again _ _ _ (filter-sublist _ _) (filter-sublist _ _))
-in_order version table prog people admissions Obc choice = sublist_again _ _ _ choice.obc.may.people (sublist_again _ _ _ (filter-sublist _ _) (filter-sublist _ _))
-in_order version table prog people admissions Sc choice = sublist_again _ _ _ choice.sc.may.people (sublist_again _ _ _ (filter-sublist _ _) (filter-sublist _ _))
-in_order version table prog people admissions St choice = sublist_again _ _ _ choice.st.may.people (sublist_again _ _ _ (filter-sublist _ _) (filter-sublist _ _))
 in_order version table prog people admissions Dereserved choice =
     subst (λ l. IsSublist l (in_merit (list_in table prog) people)) (sym choice.dereserved)
-    (sublist_again _ _ _ (IsSublist-take (unfilled version (seats_in table prog) admissions) _) (sublist_again _ _ _ (filter-sublist _ _) (left_within (in_merit (list_in table prog) people) admissions)))
+    (sublist_again _ _ _ (IsSublist-take (unfilled version (seats_in table prog) admissions) _) (people_part (list_in table prog) (in_merit (list_in table prog) people) admissions Dereserved))
+in_order version table prog people admissions kind choice =
+    sublist_again _ _ _ (choice.own kind refl).may.people (people_part (list_in table prog) (in_merit (list_in table prog) people) admissions kind)
 
--- fewer of OBC and EWS leave no fewer empty
-pub left_falls : (version ews held_ews more_ews obc held_obc more_obc : ℕ) → held_ews ≤ more_ews → held_obc ≤ more_obc
-    → left_unfilled version ews more_ews obc more_obc ≤ left_unfilled version ews held_ews obc held_obc
-left_falls version ews held_ews more_ews obc held_obc more_obc one two = by (version == 2)
+-- fewer admitted leave no fewer empty
+pub left_falls : (version : ℕ) (seats held more : StepKind → ℕ) → ((kind : StepKind) → held kind ≤ more kind) → left_unfilled version seats more ≤ left_unfilled version seats held
+left_falls version seats held more less =
+    let first : CategoryStep → ℕ = λ row. if gives_up row version then seats row.step - more row.step else 0 in
+    let second : CategoryStep → ℕ = λ row. if gives_up row version then seats row.step - held row.step else 0 in
+    let falls = rows_less first second category_steps (λ row there. by (gives_up row version) (seats row.step) (held row.step) (more row.step) (less row.step)) in
+    omega (arith, sum-map first category_steps, sum-map second category_steps, falls)
   where
-    by : (b : Bool) → (obc - more_obc) + (if b then ews - more_ews else 0) ≤ (obc - held_obc) + (if b then ews - held_ews else 0)
-    by true = omega (arith, one, two)
-    by false = omega (arith, two)
+    by : (b : Bool) (s h m : ℕ) → h ≤ m → (if b then s - m else 0) ≤ (if b then s - h else 0)
+    by true s h m less = omega (arith, less)
+    by false s h m less = omega arith
 
 -- ---- a published round
 
@@ -163,8 +162,7 @@ module _ (well : ProgrammesChooseWell) (one : OneProgrammeChoice) (facts : Seaso
         dereserved =
             let a = l.under Dereserved in
             let b = last_seats facts.version table prog all l.admissions l.choice in
-            let c = left_falls facts.version (seating_in table prog Ews).seats (seats_under prog Ews round.seats) (length l.admissions.ews) (seating_in table prog Obc).seats
-            (seats_under prog Obc round.seats) (length l.admissions.obc) (l.under Ews) (l.under Obc) in
+            let c = left_falls facts.version (λ step. (seating_in table prog step).seats) (λ step. seats_under prog step round.seats) (λ step. length (l.admissions step)) l.under in
             omega (arith, a, b, c);
       }
 

@@ -1,10 +1,11 @@
 -- Fair seats over the matrix of a round, the seats that a step has to fill there, and which programmes are open to whom.
-use Rattle.std.specs.Prelude.{◌≡◌, ◌<◌, ◌↔◌, ◌+◌, ◌-◌, ◌&&◌, ℕ, true, not, List, [], ◌∷◌, Option, Some, None, length, slice_get, if◌then◌else◌}
+use Rattle.std.specs.Prelude.{◌≡◌, ◌<◌, ◌↔◌, ◌+◌, ◌-◌, ◌&&◌, ℕ, true, not, List, [], ◌∷◌, Option, Some, None, length, slice_get, sum_by, if◌then◌else◌}
+use Rattle.office_base.specs.CategorySteps.{own_steps}
 use Rattle.office_base.specs.Person.{IsBetter}
 use Rattle.office_base.specs.declared.asks.Seat.{Seat}
 use Rattle.office_base.specs.declared.person.Person.{Person}
 use Rattle.office_base.specs.declared.step.StepKind.{StepKind}
-use Rattle.office_base.specs.declared.step.StepKind.TheVariants.{Open, Ews, Obc, Sc, St, Dereserved}
+use Rattle.office_base.specs.declared.step.StepKind.TheVariants.{Dereserved}
 use Rattle.allocations.specs.Fair.{IsFair, IsMarket}
 use Rattle.allocations.specs.Market.{Seeker, is_of, place_of, seat_at, wants}
 use Rattle.programme_laws.specs.Laws.{HoldsEachTraitOf, MayStandFor}
@@ -19,15 +20,10 @@ pub record AreFairOver (version : ℕ) (table : SeatTable) (seekers : List Seeke
   pub market : IsMarket (MayApplyIn table) (length table.programmes) seekers
   pub fair : IsFair (rule_of version table) (length table.programmes) seekers seats
 
--- the seats that a step of a programme has to fill; the de-reserved step has those that OBC left empty, and in version 2 those that EWS left empty too
+-- the seats that a step of a programme has to fill; the de-reserved step has those that categories left empty and give away in this version
 abbrev pub seats_to_fill : ℕ → SeatTable → ℕ → List (Option Seat) → StepKind → ℕ
-seats_to_fill version table prog seats Open = (seating_in table prog Open).seats
-seats_to_fill version table prog seats Ews = (seating_in table prog Ews).seats
-seats_to_fill version table prog seats Obc = (seating_in table prog Obc).seats
-seats_to_fill version table prog seats Sc = (seating_in table prog Sc).seats
-seats_to_fill version table prog seats St = (seating_in table prog St).seats
-seats_to_fill version table prog seats Dereserved =
-    left_unfilled version (seating_in table prog Ews).seats (seats_under prog Ews seats) (seating_in table prog Obc).seats (seats_under prog Obc seats)
+seats_to_fill version table prog seats Dereserved = left_unfilled version (λ step. (seating_in table prog step).seats) (λ step. seats_under prog step seats)
+seats_to_fill version table prog seats step = (seating_in table prog step).seats
 
 -- the step of the programme has given fewer seats than it has to fill
 abbrev pub HasSeatLeft : ℕ → SeatTable → ℕ → List (Option Seat) → StepKind → Type 0
@@ -35,10 +31,7 @@ HasSeatLeft version table prog seats step = seats_under prog step seats < seats_
 
 -- how many seats more the steps of a programme have in the second matrix, in all
 abbrev pub raised_in : SeatTable → SeatTable → ℕ → ℕ
-raised_in table more prog =
-    ((seating_in more prog Open).seats - (seating_in table prog Open).seats) + ((seating_in more prog Ews).seats - (seating_in table prog Ews).seats)
-    + ((seating_in more prog Obc).seats - (seating_in table prog Obc).seats) + ((seating_in more prog Sc).seats - (seating_in table prog Sc).seats)
-    + ((seating_in more prog St).seats - (seating_in table prog St).seats)
+raised_in table more prog = sum_by (λ step. (seating_in more prog step).seats - (seating_in table prog step).seats) own_steps
 
 -- how many have a seat of the programme by the second seats, and had none by the first
 abbrev pub newly_seated : ℕ → List (Option Seat) → List (Option Seat) → ℕ

@@ -1,23 +1,21 @@
 -- The rule of the office without its last step: no seat that a category leaves empty is given to anybody else.
-use Rattle.std.specs.Prelude.{◌≡◌, List, []}
+use Rattle.std.specs.Prelude.{◌≡◌, false, List, []}
 use Rattle.office_base.specs.Lists.{IsAmong}
 use Rattle.office_base.specs.Merit.{in_merit}
 use Rattle.office_base.specs.StepChoice.{IsStepChoice}
 use Rattle.office_base.specs.declared.person.Person.{Person}
-use Rattle.office_base.specs.declared.step.StepKind.TheVariants.{Open, Ews, Obc, Sc, St}
+use Rattle.office_base.specs.declared.step.StepKind.{StepKind}
+use Rattle.office_base.specs.declared.step.StepKind.TheVariants.{Dereserved}
 use Rattle.allocations.specs.Rule.{Rule}
 use Rattle.seat_matrix.specs.Matrix.{SeatTable, seats_in}
+use Rattle.seat_matrix.specs.Seats.{is_dereserved}
 use Rattle.seat_matrix.specs.declared.seats.ProgrammeSeats.{ProgrammeSeats}
 use Rattle.programme_lists.specs.Programme.{Admissions, admitted_by, step_of}
 
--- The admissions are the choices of the five steps that have seats of their own, as in the choice of a programme, and nobody else is admitted.
+-- The admissions are the choices of the steps that have seats of their own, as in the choice of a programme, and nobody else is admitted.
 pub record IsChoiceOfFive (seats : ProgrammeSeats) (applicants : List Person) (admissions : Admissions) : Type 0 where
-  pub open_step : IsStepChoice (step_of seats applicants admissions Open) admissions.open_step
-  pub ews : IsStepChoice (step_of seats applicants admissions Ews) admissions.ews
-  pub obc : IsStepChoice (step_of seats applicants admissions Obc) admissions.obc
-  pub sc : IsStepChoice (step_of seats applicants admissions Sc) admissions.sc
-  pub st : IsStepChoice (step_of seats applicants admissions St) admissions.st
-  pub nobody_else : admissions.dereserved ≡ []
+  pub own : (kind : StepKind) → is_dereserved kind ≡ false → IsStepChoice (step_of seats applicants admissions kind) (admissions kind)
+  pub nobody_else : admissions Dereserved ≡ []
 
 -- a programme of the matrix admits as these choices say
 abbrev pub rule_of_five : SeatTable → Rule

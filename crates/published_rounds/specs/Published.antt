@@ -4,7 +4,7 @@ use Rattle.office_base.specs.StepNumbers.{step_number}
 use Rattle.office_base.specs.declared.asks.Seat.{Seat}
 use Rattle.office_base.specs.declared.person.ProgId.{ProgId}
 use Rattle.office_base.specs.declared.step.StepKind.{StepKind}
-use Rattle.office_base.specs.declared.step.StepKind.TheVariants.{Ews, Obc, Dereserved}
+use Rattle.office_base.specs.declared.step.StepKind.TheVariants.{Dereserved}
 use Rattle.allocations.specs.Fair.{IsFair}
 use Rattle.allocations.specs.Market.{Seeker, place_of}
 use Rattle.choice_lists.specs.Choices.{list_of}
@@ -59,8 +59,8 @@ is_seat_under prog step (Some seat) = seat.prog.0 == prog && step_number seat.st
 abbrev pub seats_under : ℕ → StepKind → List (Option Seat) → ℕ
 seats_under prog step seats = count_by (is_seat_under prog step) seats
 
--- No step of a programme gives more seats than it has. The de-reserved step has those that OBC left empty, and in version 2 those that EWS left empty too.
+-- No step of a programme gives more seats than it has. The de-reserved step has those that categories left empty and give away in this version: OBC, and in
+-- version 2 EWS too.
 pub record AreWithin (version : ℕ) (matrix : SeatTable) (prog : ℕ) (seats : List (Option Seat)) : Type 0 where
   pub own : (step : StepKind) → is_dereserved step ≡ false → seats_under prog step seats ≤ (seating_in matrix prog step).seats
-  pub dereserved : seats_under prog Dereserved seats
-      ≤ left_unfilled version (seating_in matrix prog Ews).seats (seats_under prog Ews seats) (seating_in matrix prog Obc).seats (seats_under prog Obc seats)
+  pub dereserved : seats_under prog Dereserved seats ≤ left_unfilled version (λ step. (seating_in matrix prog step).seats) (λ step. seats_under prog step seats)
