@@ -1,5 +1,5 @@
 -- Bytes are a dossier or have one first fault.
-use Rattle.std.proofs.Common.{◌≡◌, ◌<◌, ◌≤◌, ◌-◌, inl, inr, ℕ, Bool, true, false, List, [], ◌++◌, Option, Some, Err, refl, sym, ap, subst, ◌∙◌, arith, append_assoc}
+use Rattle.std.proofs.Common.{◌≡◌, ◌<◌, ◌≤◌, ◌⊎◌, ◌-◌, inl, inr, ℕ, Bool, true, false, List, [], ◌++◌, Option, Some, Result, Ok, Err, length, refl, sym, ap, subst, ◌∙◌, arith, append_assoc}
 use Rattle.std.proofs.lemmas.Bool.{cases_lt}
 use Rattle.std.proofs.lemmas.Option.{slice_get-map}
 use Rattle.std.specs.Option.{unwrap_or}
@@ -9,23 +9,25 @@ use Rattle.office_base.specs.Codes.{is_code}
 use Rattle.office_base.specs.declared.asks.Request.{Request}
 use Rattle.office_base.specs.declared.person.Person.{Person}
 use Rattle.section_rows.specs.Rows.{rows_of}
+use Rattle.section_rows.proofs.StageLemmas.{EndsOnce, not_both, one_err, one_ok, then, then-once}
 use Rattle.request_rows.specs.Requests.{script_of}
 use Rattle.office_base.proofs.Lists.{all-get, there_is}
 use Rattle.seat_matrix.specs.Laws.{AreCodes}
 use Rattle.seat_matrix.specs.Matrix.{SeatTable, codes_in}
 use Rattle.seat_matrix.specs.declared.entry.Home.{Home}
-use Rattle.season_file.specs.Laws.{AreSame, AreSound, HaveOneReading}
+use Rattle.season_file.specs.Laws.{AreSound, HasFault, HaveOneReading}
 use Rattle.season_file.specs.Season.{content_of}
 use Rattle.season_file.specs.declared.content.Content.{Content}
 use Rattle.season_file.specs.declared.fault.SeasonFault.{SeasonFault}
 use Rattle.season_file.specs.declared.fault.SeasonFault.TheVariants.{NotUtf8, BadRequest}
-use Rattle.season_file.specs.declared.head.Head.{Head}
 use Rattle.season_file.specs.declared.season.Season.{Season}
 use Rattle.published_texts.specs.Texts.{code_in}
 use Rattle.text_readers.specs.Parts.{AreSpelled}
 use Rattle.text_readers.specs.Reading.{Begins, Grammar, IsFaultLine, first_lines}
 use Rattle.text_readers.proofs.KnownLemmas.{small-people}
-use Rattle.dossier_file.specs.Dossier.{AreDossier, GivesContent, HasDossierFault, HasPublishedFault, HasSeasonFault, IsBundleFault, IsRequestsFault, IsScript}
+use Rattle.office_base.specs.Limits.{most_bundle_bytes}
+use Rattle.dossier_file.specs.Cut.{HasNoSection, IsCut}
+use Rattle.dossier_file.specs.Dossier.{AreDossier, GivesContent, HasDossierFault, HasSeasonFault, IsBundleFault, IsRequestsFault, IsScript}
 use Rattle.dossier_file.specs.Laws.{HaveOneDossier}
 use Rattle.dossier_file.specs.Papers.{AreDuePapers}
 use Rattle.dossier_file.specs.Texts.{AreReadable}
@@ -87,36 +89,6 @@ module _ {V : Type 0} (grammar : Grammar V) (bytes : List ℕ) where
     ]
   ]
 
--- ---- seasons
-
-table_same : (a b : SeatTable) → a.programmes ≡ b.programmes → a.steps ≡ b.steps → a ≡ b
-table_same a b programmes steps =
-    let first : a ≡ record { programmes = b.programmes; steps = a.steps } = ap (λ z. record { programmes = z; steps = a.steps }) programmes in
-    let second : record { programmes = b.programmes; steps = a.steps } ≡ b = ap (λ z. record { programmes = b.programmes; steps = z }) steps in
-    first ∙ second
-
--- texts that are due by one season and script are due by another that is the same
-papers_along : (table other : SeatTable) (people more : List Person) (rounds next : ℕ) (script scripts : List Request) (text texts : List ℕ) (papers : Papers)
-    → table ≡ other → people ≡ more → rounds ≡ next → script ≡ scripts → text ≡ texts → AreDuePapers table people rounds script text papers → AreDuePapers other more next scripts texts papers
-papers_along table other people more rounds next script scripts text texts papers a b c d e is =
-    subst (λ (z : List ℕ). AreDuePapers other more next scripts z papers) e
-    (subst (λ (z : List Request). AreDuePapers other more next z text papers) d
-    (subst (λ (z : ℕ). AreDuePapers other more z script text papers) c
-    (subst (λ (z : List Person). AreDuePapers other z rounds script text papers) b
-    (subst (λ (z : SeatTable). AreDuePapers z people rounds script text papers) a is))))
-
-fault_along : (table other : SeatTable) (people more : List Person) (rounds next : ℕ) (script scripts : List Request) (text texts : List ℕ) (n : ℕ)
-    → table ≡ other → people ≡ more → rounds ≡ next → script ≡ scripts → text ≡ texts → IsFaultLine (AreDuePapers table people rounds script) text n → IsFaultLine (AreDuePapers other more next scripts) texts n
-fault_along table other people more rounds next script scripts text texts n a b c d e is =
-    subst (λ (z : List ℕ). IsFaultLine (AreDuePapers other more next scripts) z n) e
-    (subst (λ (z : List Request). IsFaultLine (AreDuePapers other more next z) text n) d
-    (subst (λ (z : ℕ). IsFaultLine (AreDuePapers other more z script) text n) c
-    (subst (λ (z : List Person). IsFaultLine (AreDuePapers other z rounds script) text n) b
-    (subst (λ (z : SeatTable). IsFaultLine (AreDuePapers z people rounds script) text n) a is))))
-
-scripts_same : (requests more : List ℕ) (script scripts : List Request) → requests ≡ more → IsScript requests script → IsScript more scripts → script ≡ scripts
-scripts_same requests more script scripts e is its = (let both = sym is.1 ∙ (ap (λ (z : List ℕ). script_of (rows_of z)) e ∙ its.1) in cc)
-
 -- ---- texts that can be read
 
 -- where all codes are spelled as codes are, each is
@@ -137,114 +109,104 @@ readable_of content sound = record {
   few = (let all = sound.ranks.few in omega (arith, all));
 }
 
-module _ (reading : (requests : Bool) (bytes : List ℕ) → HaveOneReading requests bytes) (bytes : List ℕ) where
-  contents_same : (bundle more : List ℕ) (content other : Content) → bundle ≡ more → GivesContent bundle content → GivesContent more other → AreSame content other
-  contents_same bundle more content other e is its = (reading false more).one_content content other [] [] (subst (λ (z : List ℕ). GivesContent z content) e is) its
+-- ---- the stages of a reading
 
-  -- ---- never both
+-- a bundle, the body of requests and published texts
+abbrev Parts : Type 0
+Parts = List ℕ × List ℕ × List ℕ
 
-  apart_season : (season : Season) (script : List Request) (papers : Papers) (fault : SeasonFault) → AreDossier bytes season script papers → HasSeasonFault bytes fault → ⊥
-  apart_season season script papers fault d f =
-      let same = one_cut bytes d.bundle d.requests d.published f.bundle f.requests f.published d.cut f.cut in
-      elim f.is [
-        | inl bundle ↦ (reading false f.bundle).apart (content_of season d.of_season.row) [] fault (subst (λ (z : List ℕ). GivesContent z (content_of season d.of_season.row)) same.bundles d.of_season.given) bundle
-        | inr other ↦ apart_requests f.requests script fault (subst (λ (z : List ℕ). IsScript z script) same.scripts d.of_script) other.2
-      ]
+-- the bytes are cut
+abbrev cut_ends : List ℕ → Result Parts DossierFault → Type 0
+cut_ends bytes (Ok parts) = (length bytes ≤ most_bundle_bytes) × IsCut bytes parts.0 parts.1 parts.2
+cut_ends bytes (Err fault) = ((most_bundle_bytes < length bytes) × (fault ≡ TooLong)) ⊎ ((length bytes ≤ most_bundle_bytes) × HasNoSection bytes × (fault ≡ NoSection))
 
-  apart_published : (season : Season) (script : List Request) (papers : Papers) (line : ℕ) → AreDossier bytes season script papers → HasPublishedFault bytes line → ⊥
-  apart_published season script papers line d f =
-      let same = one_cut bytes d.bundle d.requests d.published f.bundle f.requests f.published d.cut f.cut in
-      let contents = contents_same d.bundle f.bundle (content_of season d.of_season.row) f.content same.bundles d.of_season.given f.of_season in
-      f.is.none papers (papers_along season.matrix f.content.matrix season.register.people f.content.register.people season.rounds f.content.head.rounds script f.script d.published f.published papers
-      (table_same season.matrix f.content.matrix contents.programmes contents.steps) contents.people (ap (λ (z : Head). z.rounds) contents.head) (scripts_same d.requests f.requests script f.script same.scripts d.of_script f.of_script) same.papers d.of_papers)
+-- the bundle gives a season
+abbrev bundle_ends : List ℕ → Result Content DossierFault → Type 0
+bundle_ends bundle (Ok content) = GivesContent bundle content
+bundle_ends bundle (Err fault) = (first : SeasonFault) × HasFault false bundle first × (fault ≡ BadSeason first)
 
-  never_both : (season : Season) (script : List Request) (papers : Papers) (fault : DossierFault) → AreDossier bytes season script papers → HasDossierFault bytes fault → ⊥
-  never_both season script papers ReadFault d f = f
-  never_both season script papers TooLong d f = (let short = d.short in omega (arith, short, f))
-  never_both season script papers NoSection d f = f.1 d.bundle d.requests d.published d.cut
-  never_both season script papers (BadSeason fault) d f = apart_season season script papers fault d f
-  never_both season script papers (Published line) d f = apart_published season script papers line d f
-  never_both season script papers OutOfMemory d f = f
+-- the requests are a script
+abbrev requests_end : List ℕ → Result (List Request) DossierFault → Type 0
+requests_end requests (Ok script) = IsScript requests script
+requests_end requests (Err fault) = (first : SeasonFault) × IsRequestsFault requests first × (fault ≡ BadSeason first)
 
-  -- ---- one fault
+-- the texts are those that are due by them
+abbrev texts_end : List ℕ → Content → List Request → Result (Unit {0}) DossierFault → Type 0
+texts_end published content script (Ok done) = (papers : Papers) × AreDuePapers content.matrix content.register.people content.head.rounds script published papers
+texts_end published content script (Err fault) = (line : ℕ) × IsFaultLine (AreDuePapers content.matrix content.register.people content.head.rounds script) published line × (fault ≡ Published line)
 
-  long_fault : (other : DossierFault) → HasDossierFault bytes TooLong → HasDossierFault bytes other → TooLong ≡ other
-  long_fault ReadFault f g = absurd g
-  long_fault TooLong f g = refl
-  long_fault NoSection f g = (let short = g.0 in absurd (omega (arith, short, f)))
-  long_fault (BadSeason fault) f g = (let short = g.short in absurd (omega (arith, short, f)))
-  long_fault (Published line) f g = (let short = g.short in absurd (omega (arith, short, f)))
-  long_fault OutOfMemory f g = absurd g
+-- what bytes end with: they are a dossier, or have a fault
+abbrev after_cut : Parts → Result (Unit {0}) DossierFault → Type 0
+after_cut parts = then (bundle_ends parts.0) (λ content. then (requests_end parts.1) (texts_end parts.2 content))
 
-  no_fault : (other : DossierFault) → HasDossierFault bytes NoSection → HasDossierFault bytes other → NoSection ≡ other
-  no_fault ReadFault f g = absurd g
-  no_fault TooLong f g = (let short = f.0 in absurd (omega (arith, short, g)))
-  no_fault NoSection f g = refl
-  no_fault (BadSeason fault) f g = absurd (f.1 g.bundle g.requests g.published g.cut)
-  no_fault (Published line) f g = absurd (f.1 g.bundle g.requests g.published g.cut)
-  no_fault OutOfMemory f g = absurd g
+abbrev ends : List ℕ → Result (Unit {0}) DossierFault → Type 0
+ends bytes = then (cut_ends bytes) after_cut
 
-  bundle_faults : (bundle requests : List ℕ) (fault other : SeasonFault) → IsBundleFault bundle requests fault → IsBundleFault bundle requests other → fault ≡ other
-  bundle_faults bundle requests fault other f g = elim f [
-    | inl a ↦ elim g [
-      | inl b ↦ (reading false bundle).one_fault fault other a b
-      | inr b ↦ absurd ((reading false bundle).apart b.0 [] fault b.1 a)
-    ]
-    | inr a ↦ elim g [
-      | inl b ↦ absurd ((reading false bundle).apart a.0 [] other a.1 b)
-      | inr b ↦ one_requests requests fault other a.2 b.2
-    ]
-  ]
+-- ---- each stage ends in one way
 
-  season_faults : (fault other : SeasonFault) → HasSeasonFault bytes fault → HasSeasonFault bytes other → fault ≡ other
-  season_faults fault other f g =
-      let same = one_cut bytes f.bundle f.requests f.published g.bundle g.requests g.published f.cut g.cut in
-      bundle_faults g.bundle g.requests fault other (subst (λ (z : List ℕ). IsBundleFault g.bundle z fault) same.scripts (subst (λ (z : List ℕ). IsBundleFault z f.requests fault) same.bundles f.is)) g.is
+cut-once : (bytes : List ℕ) → EndsOnce (cut_ends bytes)
+cut-once bytes (Ok parts) (Ok others) a b =
+    let same = one_cut bytes parts.0 parts.1 parts.2 others.0 others.1 others.2 a.1 b.1 in λ i. Ok (same.bundles i, same.scripts i, same.papers i)
+cut-once bytes (Ok parts) (Err fault) a (inl b) = absurd (omega (arith, a.0, b.0))
+cut-once bytes (Ok parts) (Err fault) a (inr b) = absurd (b.1 parts.0 parts.1 parts.2 a.1)
+cut-once bytes (Err fault) (Ok parts) (inl a) b = absurd (omega (arith, a.0, b.0))
+cut-once bytes (Err fault) (Ok parts) (inr a) b = absurd (a.1 parts.0 parts.1 parts.2 b.1)
+cut-once bytes (Err fault) (Err other) (inl a) (inl b) = ap Err (a.1 ∙ sym b.1)
+cut-once bytes (Err fault) (Err other) (inl a) (inr b) = absurd (omega (arith, a.0, b.0))
+cut-once bytes (Err fault) (Err other) (inr a) (inl b) = absurd (omega (arith, a.0, b.0))
+cut-once bytes (Err fault) (Err other) (inr a) (inr b) = ap Err (a.2 ∙ sym b.2)
 
-  season_published : (fault : SeasonFault) (line : ℕ) → HasSeasonFault bytes fault → HasPublishedFault bytes line → ⊥
-  season_published fault line f g =
-      let same = one_cut bytes f.bundle f.requests f.published g.bundle g.requests g.published f.cut g.cut in
-      elim f.is [
-        | inl a ↦ (reading false f.bundle).apart g.content [] fault (subst (λ (z : List ℕ). GivesContent z g.content) (sym same.bundles) g.of_season) a
-        | inr a ↦ apart_requests f.requests g.script fault (subst (λ (z : List ℕ). IsScript z g.script) (sym same.scripts) g.of_script) a.2
-      ]
+bundle-once : (bundle : List ℕ) → HaveOneReading false bundle → EndsOnce (bundle_ends bundle)
+bundle-once bundle reading (Ok content) (Ok other) a b = ap Ok (reading.one_content content other [] [] a b)
+bundle-once bundle reading (Ok content) (Err fault) a b = absurd (reading.apart content [] b.0 a b.1)
+bundle-once bundle reading (Err fault) (Ok content) a b = absurd (reading.apart content [] a.0 b a.1)
+bundle-once bundle reading (Err fault) (Err other) a b = ap Err (a.2 ∙ ap (λ (f : SeasonFault). BadSeason f) (reading.one_fault a.0 b.0 a.1 b.1) ∙ sym b.2)
 
-  published_faults : (line other : ℕ) → HasPublishedFault bytes line → HasPublishedFault bytes other → line ≡ other
-  published_faults line other f g =
-      let same = one_cut bytes f.bundle f.requests f.published g.bundle g.requests g.published f.cut g.cut in
-      let contents = contents_same f.bundle g.bundle f.content g.content same.bundles f.of_season g.of_season in
-      one_line (AreDuePapers g.content.matrix g.content.register.people g.content.head.rounds g.script) g.published line other
-      (fault_along f.content.matrix g.content.matrix f.content.register.people g.content.register.people f.content.head.rounds g.content.head.rounds f.script g.script f.published g.published line
-      (table_same f.content.matrix g.content.matrix contents.programmes contents.steps) contents.people (ap (λ (z : Head). z.rounds) contents.head) (scripts_same f.requests g.requests f.script g.script same.scripts f.of_script g.of_script) same.papers f.is) g.is
+requests-once : (requests : List ℕ) → EndsOnce (requests_end requests)
+requests-once requests (Ok script) (Ok other) a b = ap Ok (one_ok (script_of (rows_of requests)) script other a.1 b.1)
+requests-once requests (Ok script) (Err fault) a b = absurd (apart_requests requests script b.0 a b.1)
+requests-once requests (Err fault) (Ok script) a b = absurd (apart_requests requests script a.0 b a.1)
+requests-once requests (Err fault) (Err other) a b = ap Err (a.2 ∙ ap (λ (f : SeasonFault). BadSeason f) (one_requests requests a.0 b.0 a.1 b.1) ∙ sym b.2)
 
-  season_fault : (fault : SeasonFault) (other : DossierFault) → HasSeasonFault bytes fault → HasDossierFault bytes other → BadSeason fault ≡ other
-  season_fault fault ReadFault f g = absurd g
-  season_fault fault TooLong f g = (let short = f.short in absurd (omega (arith, short, g)))
-  season_fault fault NoSection f g = absurd (g.1 f.bundle f.requests f.published f.cut)
-  season_fault fault (BadSeason other) f g = ap (λ (z : SeasonFault). BadSeason z) (season_faults fault other f g)
-  season_fault fault (Published line) f g = absurd (season_published fault line f g)
-  season_fault fault OutOfMemory f g = absurd g
+texts-once : (published : List ℕ) (content : Content) (script : List Request) → EndsOnce (texts_end published content script)
+texts-once published content script (Ok done) (Ok other) a b = refl
+texts-once published content script (Ok done) (Err fault) a b = absurd (b.1.none a.0 a.1)
+texts-once published content script (Err fault) (Ok done) a b = absurd (a.1.none b.0 b.1)
+texts-once published content script (Err fault) (Err other) a b =
+    ap Err (a.2 ∙ ap (λ (n : ℕ). Published n) (one_line (AreDuePapers content.matrix content.register.people content.head.rounds script) published a.0 b.0 a.1 b.1) ∙ sym b.2)
 
-  published_fault : (line : ℕ) (other : DossierFault) → HasPublishedFault bytes line → HasDossierFault bytes other → Published line ≡ other
-  published_fault line ReadFault f g = absurd g
-  published_fault line TooLong f g = (let short = f.short in absurd (omega (arith, short, g)))
-  published_fault line NoSection f g = absurd (g.1 f.bundle f.requests f.published f.cut)
-  published_fault line (BadSeason fault) f g = absurd (season_published fault line g f)
-  published_fault line (Published other) f g = ap (λ (z : ℕ). Published z) (published_faults line other f g)
-  published_fault line OutOfMemory f g = absurd g
+ends-once : ((requests : Bool) (bytes : List ℕ) → HaveOneReading requests bytes) → (bytes : List ℕ) → EndsOnce (ends bytes)
+ends-once reading bytes =
+    then-once (cut_ends bytes) after_cut (cut-once bytes) (λ parts. then-once (bundle_ends parts.0) _ (bundle-once parts.0 (reading false parts.0))
+    (λ content. then-once (requests_end parts.1) (texts_end parts.2 content) (requests-once parts.1) (texts-once parts.2 content)))
 
-  one_fault_of : (fault other : DossierFault) → HasDossierFault bytes fault → HasDossierFault bytes other → fault ≡ other
-  one_fault_of ReadFault other f g = absurd f
-  one_fault_of TooLong other f g = long_fault other f g
-  one_fault_of NoSection other f g = no_fault other f g
-  one_fault_of (BadSeason fault) other f g = season_fault fault other f g
-  one_fault_of (Published line) other f g = published_fault line other f g
-  one_fault_of OutOfMemory other f g = absurd f
+-- ---- dossiers and their faults are ends
 
-  pub one_dossier_of : HaveOneDossier bytes
-  one_dossier_of = record {
-    apart = never_both;
-    readable = λ season script papers is.
-        readable_of (content_of season is.of_season.row) ((reading false is.bundle).sound (content_of season is.of_season.row) [] is.of_season.given);
-    one_fault = one_fault_of;
-  }
+dossier-ends : (bytes : List ℕ) (season : Season) (script : List Request) (papers : Papers) → AreDossier bytes season script papers → ends bytes (Ok tt)
+dossier-ends bytes season script papers d =
+    inr ((d.bundle, d.requests, d.published), (d.short, d.cut), inr (content_of season d.of_season.row, d.of_season.given, inr (script, d.of_script, (papers, d.of_papers))))
+
+season-ends : (bytes : List ℕ) (fault : SeasonFault) → HasSeasonFault bytes fault → ends bytes (Err (BadSeason fault))
+season-ends bytes fault f =
+    let inside : IsBundleFault f.bundle f.requests fault → after_cut (f.bundle, f.requests, f.published) (Err (BadSeason fault)) = λ is. elim is [
+      | inl first ↦ inl (BadSeason fault, (fault, first, refl), refl)
+      | inr first ↦ inr (first.0, first.1, inl (BadSeason fault, (fault, first.2, refl), refl))
+    ] in
+    inr ((f.bundle, f.requests, f.published), (f.short, f.cut), inside f.is)
+
+fault-ends : (bytes : List ℕ) (fault : DossierFault) → HasDossierFault bytes fault → ends bytes (Err fault)
+fault-ends bytes ReadFault f = absurd f
+fault-ends bytes TooLong f = inl (TooLong, inl (f, refl), refl)
+fault-ends bytes NoSection f = inl (NoSection, inr (f.0, f.1, refl), refl)
+fault-ends bytes (BadSeason fault) f = season-ends bytes fault f
+fault-ends bytes (Published line) f = inr ((f.bundle, f.requests, f.published), (f.short, f.cut), inr (f.content, f.of_season, inr (f.script, f.of_script, (line, f.is, refl))))
+fault-ends bytes OutOfMemory f = absurd f
+
+pub one_dossier_of : ((requests : Bool) (bytes : List ℕ) → HaveOneReading requests bytes) → (bytes : List ℕ) → HaveOneDossier bytes
+one_dossier_of reading bytes = record {
+  apart = λ season script papers fault d f.
+      not_both (Ok tt) tt fault refl (ends-once reading bytes (Ok tt) (Err fault) (dossier-ends bytes season script papers d) (fault-ends bytes fault f));
+  readable = λ season script papers is.
+      readable_of (content_of season is.of_season.row) ((reading false is.bundle).sound (content_of season is.of_season.row) [] is.of_season.given);
+  one_fault = λ fault other f g. one_err (Err fault) fault other refl (ends-once reading bytes (Err fault) (Err other) (fault-ends bytes fault f) (fault-ends bytes other g));
+}

@@ -4,7 +4,7 @@ use Rattle.std.proofs.lemmas.Bool.{cases_lt}
 use Rattle.office_base.specs.declared.person.Person.{Person}
 use Rattle.office_base.specs.declared.step.Pair.{Pair}
 use Rattle.office_base.specs.declared.step.StepKind.{StepKind}
-use Rattle.office_base.specs.declared.step.StepKind.TheVariants.{Open, Ews, Obc, Sc, St, Dereserved}
+use Rattle.office_base.specs.declared.step.StepKind.TheVariants.{Dereserved}
 use Rattle.programme_lists.specs.declared.programme.StepList.{StepList}
 use Rattle.seat_matrix.specs.Matrix.{SeatTable}
 use Rattle.text_readers.specs.Reading.{Begins, Grammar}
@@ -58,9 +58,5 @@ module _ (people : List Person) (rising : AreRising people) (after : List Person
 
 -- slots are no more than rows
 pub slots-few : (kind : StepKind) (rows slots : ℕ) → slots ≤ most_slots kind rows → slots ≤ rows
-slots-few Open rows slots few = few
-slots-few Ews rows slots few = few
-slots-few Obc rows slots few = few
-slots-few Sc rows slots few = few
-slots-few St rows slots few = few
 slots-few Dereserved rows slots few = omega (arith, few)
+slots-few kind rows slots few = few

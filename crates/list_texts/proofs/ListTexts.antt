@@ -11,7 +11,7 @@ use Rattle.office_base.specs.declared.person.Person.{Person}
 use Rattle.office_base.specs.declared.person.ProgId.{ProgId}
 use Rattle.office_base.specs.declared.step.Pair.{Pair}
 use Rattle.office_base.specs.declared.step.StepKind.{StepKind}
-use Rattle.office_base.specs.declared.step.StepKind.TheVariants.{Open, Ews, Obc, Sc, St, Dereserved}
+use Rattle.office_base.specs.declared.step.StepKind.TheVariants.{Dereserved}
 use Rattle.office_base.proofs.Lists.{all_joined}
 use Rattle.programme_lists.specs.declared.programme.Programme.{Programme}
 use Rattle.programme_lists.specs.declared.programme.StepList.{StepList}
@@ -238,12 +238,8 @@ step-read people kind after text said is =
     }
 
 within-slots : (kind : StepKind) (rows slots : ℕ) → slots ≤ rows → (kind ≡ Dereserved → slots ≡ 0) → slots ≤ most_slots kind rows
-within-slots Open rows slots few none = few
-within-slots Ews rows slots few none = few
-within-slots Obc rows slots few none = few
-within-slots Sc rows slots few none = few
-within-slots St rows slots few none = few
 within-slots Dereserved rows slots few none = omega (arith, none refl)
+within-slots kind rows slots few none = few
 
 step-write : (people : List Person) (kind : StepKind) (after : StepList → Grammar Said) (list : StepList) (rest : List ℕ) (said : Said) → AreRising people
     → IsStepList people kind list → after list rest said → step_text people kind after (list_step list ++ rest) said

@@ -4,7 +4,7 @@ use Rattle.std.specs.Fmt.{decimal}
 use Rattle.office_base.specs.declared.person.Person.{Person}
 use Rattle.office_base.specs.declared.step.Pair.{Pair}
 use Rattle.office_base.specs.declared.step.StepKind.{StepKind}
-use Rattle.office_base.specs.declared.step.StepKind.TheVariants.{Open, Ews, Obc, Sc, St, Dereserved}
+use Rattle.office_base.specs.declared.step.StepKind.TheVariants.{Dereserved}
 use Rattle.programme_lists.specs.declared.programme.StepList.{StepList}
 use Rattle.published_texts.specs.Texts.{code_in}
 use Rattle.seat_matrix.specs.Matrix.{SeatTable}
@@ -51,12 +51,8 @@ honoured_words slots = codes "honoured " ++ decimal slots
 
 -- how many of so many rows may have one: none in the step of the seats that categories left
 abbrev pub most_slots : StepKind → ℕ → ℕ
-most_slots Open rows = rows
-most_slots Ews rows = rows
-most_slots Obc rows = rows
-most_slots Sc rows = rows
-most_slots St rows = rows
 most_slots Dereserved rows = 0
+most_slots kind rows = rows
 
 -- a row
 abbrev pub entry_words : Entry → List ℕ

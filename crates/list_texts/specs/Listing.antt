@@ -1,10 +1,11 @@
 -- The text of a programme's list as it is read: what it says of each step, row by row.
 use Rattle.std.specs.Prelude.{◌≡◌, ◌<◌, ◌^◌, ◌==◌, ℕ, Bool, false, List, [], ◌∷◌, ◌++◌, Option, Some, None, IfSome, length, map}
 use Rattle.std.specs.List.{list_any}
+use Rattle.office_base.specs.CategorySteps.{all_steps}
 use Rattle.office_base.specs.declared.person.Person.{Person}
 use Rattle.office_base.specs.declared.step.Pair.{Pair}
 use Rattle.office_base.specs.declared.step.StepKind.{StepKind}
-use Rattle.office_base.specs.declared.step.StepKind.TheVariants.{Open, Ews, Obc, Sc, St, Dereserved}
+use Rattle.office_base.specs.declared.step.StepKind.TheVariants.{Dereserved}
 use Rattle.programme_lists.specs.declared.programme.StepList.{StepList}
 use Rattle.published_texts.specs.Texts.{list_text}
 use Rattle.rank_lists.specs.Register.{find_person}
@@ -58,7 +59,7 @@ pub record IsStepList (people : List Person) (kind : StepKind) (list : StepList)
 
 -- the six steps, in their order
 abbrev pub step_kinds : List StepKind
-step_kinds = Open ∷ Ews ∷ Obc ∷ Sc ∷ St ∷ Dereserved ∷ []
+step_kinds = all_steps
 
 -- a list for each of these steps
 abbrev pub AreStepLists : List Person → List StepKind → List StepList → Type 0

@@ -65,12 +65,8 @@ pub(crate) fn slots_within(kind: StepKind, rows: u32) -> u32
     ensures { result ≡ most_slots kind rows }
 {
     match kind {
-        StepKind::Open => rows,
-        StepKind::Ews => rows,
-        StepKind::Obc => rows,
-        StepKind::Sc => rows,
-        StepKind::St => rows,
         StepKind::Dereserved => 0,
+        _ => rows,
     }
 }
 

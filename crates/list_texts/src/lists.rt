@@ -7,7 +7,7 @@ ghost use Rattle.list_texts.specs.Listing.{IsListText, step_kinds};
 
 use crate::list_reader::ListReader;
 use crate::list_stage::ListStage;
-use office_base::{Pairs, People, ProgId, StepKind};
+use office_base::{ALL_STEPS, Pairs, People, ProgId};
 use programme_lists::{Programme, StepList};
 use rank_lists::Register;
 use season_file::Season;
@@ -15,16 +15,6 @@ use seat_matrix::Matrix;
 use std::alloc::Global;
 use std::collections::BTreeSet;
 use text_readers::{TextFault, codes_are_spelled, read_lines, small_people};
-
-/// The six steps of a programme, in their order.
-const STEPS: [StepKind; 6] = [
-    StepKind::Open,
-    StepKind::Ews,
-    StepKind::Obc,
-    StepKind::Sc,
-    StepKind::St,
-    StepKind::Dereserved,
-];
 
 /// Holds the list of a programme as it was read. Seats and candidates are the written ones, and the admitted are those
 /// of the register with the written ids.
@@ -75,7 +65,7 @@ fn begin<'a>(alloc: Global, matrix: &'a Matrix, register: &'a Register) -> ListR
         stage: ListStage::Head,
         number: 0,
         prog: ProgId(0),
-        kinds: &STEPS,
+        kinds: &ALL_STEPS,
         steps: Vec::new(alloc),
         admitted: People::new(alloc),
         pairs: Pairs::new(alloc),

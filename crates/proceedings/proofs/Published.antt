@@ -3,13 +3,13 @@ use Rattle.std.proofs.Common.{◌≡◌, ◌<◌, ◌≤◌, ℕ, zero, suc, Lis
 use Rattle.std.specs.Prelude.{slice_get}
 use Rattle.std.specs.List.{AllZip}
 use Rattle.std.proofs.lemmas.Option.{slice_get_within}
+use Rattle.office_base.specs.CategorySteps.{all_steps}
 use Rattle.office_base.specs.declared.asks.Seat.{Seat}
 use Rattle.office_base.specs.declared.person.CandId.{CandId}
 use Rattle.office_base.specs.declared.person.Person.{Person}
 use Rattle.office_base.specs.declared.person.ProgId.{ProgId}
 use Rattle.kept_rows.specs.declared.rows.AllotRow.{AllotRow}
 use Rattle.allocations.specs.Market.{applicants}
-use Rattle.office_base.specs.declared.step.StepKind.TheVariants.{Open, Ews, Obc, Sc, St, Dereserved}
 use Rattle.seat_matrix.specs.Matrix.{seats_in}
 use Rattle.seat_matrix.specs.declared.seats.ProgrammeSeats.{ProgrammeSeats}
 use Rattle.office_base.specs.Merit.{in_merit}
@@ -92,7 +92,7 @@ zip_length R (x ∷ xs) (y ∷ ys) all = ap suc (zip_length R xs ys all.1)
 
 six_shown : (version : ℕ) (seats : ProgrammeSeats) (people : List Person) (programme : Programme) → ShowsFrom version seats people programme → length programme.steps ≡ 6
 six_shown version seats people programme shows =
-    sym (zip_length (ShowsStep version seats (in_merit seats.list people) shows.0) (Open ∷ Ews ∷ Obc ∷ Sc ∷ St ∷ Dereserved ∷ []) programme.steps shows.2)
+    sym (zip_length (ShowsStep version seats (in_merit seats.list people) shows.0) all_steps programme.steps shows.2)
 
 pub six_steps : (facts : SeasonFacts) (state : State) (n : ℕ) (round : Round) (p : ℕ) (programme : Programme) → IsCourse facts state → round_at state.rounds n ≡ Some round → slice_get round.programmes p ≡ Some programme
     → length programme.steps ≡ 6

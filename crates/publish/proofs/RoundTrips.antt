@@ -1,5 +1,5 @@
 -- What is published is read back as it was written.
-use Rattle.std.proofs.Common.{◌≡◌, ◌<◌, ◌^◌, ℕ, cond, eqb, List, [], ◌∷◌, ◌++◌, Option, Some, None, length, map, get_or, refl, sym, inl, inr, ap, subst, ◌∙◌, arith}
+use Rattle.std.proofs.Common.{◌≡◌, ◌<◌, ◌^◌, ℕ, List, [], ◌∷◌, ◌++◌, Option, Some, None, length, map, refl, sym, inl, inr, ap, subst, ◌∙◌, arith}
 use Rattle.std.specs.Fmt.{decimal}
 use Rattle.std.specs.List.{AllByRecursion, flat_map}
 use Rattle.std.specs.Prelude.{codes}
@@ -8,7 +8,7 @@ use Rattle.office_base.specs.Lists.{IsSublist}
 use Rattle.office_base.specs.declared.asks.Seat.{Seat}
 use Rattle.office_base.specs.declared.person.Person.{Person}
 use Rattle.office_base.specs.declared.step.StepKind.{StepKind}
-use Rattle.office_base.specs.declared.step.StepKind.TheVariants.{Open, Ews, Obc, Sc, St, Dereserved}
+use Rattle.office_text.proofs.NamesLemmas.{one_name}
 use Rattle.published_texts.specs.Texts.{AreSeatsOf, allot_line, allot_lines, code_in, round_head}
 use Rattle.rounds.specs.Round.{seated}
 use Rattle.seat_matrix.specs.Matrix.{SeatTable}
@@ -68,21 +68,6 @@ finals-read table people number rows are = record { rows = are; same = refl }
 
 -- ---- what is read is one value
 
--- the step of a name
-name-step : List ℕ → StepKind
-name-step bytes =
-    cond (eqb (get_or bytes 0 0) 79) (cond (eqb (get_or bytes 1 0) 80) Open Obc)
-    (cond (eqb (get_or bytes 0 0) 69) Ews (cond (eqb (get_or bytes 0 0) 83) (cond (eqb (get_or bytes 1 0) 67) Sc St) Dereserved))
-
-step-name : (step : StepKind) → name-step (step_name step) ≡ step
-unfolding name-step
-step-name Open = refl
-step-name Ews = refl
-step-name Obc = refl
-step-name Sc = refl
-step-name St = refl
-step-name Dereserved = refl
-
 -- a row of its parts
 abbrev row_with : ℕ → ℕ → ℕ → StepKind → AllotRow
 row_with round cand prog step = record { round = round; cand = record { 0 = cand }; prog = record { 0 = prog }; step = step }
@@ -100,7 +85,7 @@ module _ (sort : Sort) (table : SeatTable) (people : List Person) (distinct : Ar
       (decimal row.cand.0 ++ 32 ∷ (code_in table row.prog.0 ++ 32 ∷ step_name row.step)) (decimal row.cand.0) (code_in table row.prog.0 ++ 32 ∷ step_name row.step) (code_in table row.prog.0) (step_name row.step)
       (sym e) refl (digits-clear 32 row.cand.0 (omega (arith, small)) refl) refl (code-clear 32 (code_in table row.prog.0) refl (distinct.spelled row.prog.0 within)) in
       let prog = code-one table distinct.codes row.prog.0 other.prog.0 within below code in
-      let step = sym (step-name row.step) ∙ ap name-step name ∙ step-name other.step in
+      let step = one_name row.step other.step name in
       ap (λ z. row_with z row.cand.0 row.prog.0 row.step) (mine ∙ sym its) ∙ ap (λ z. row_with other.round z row.prog.0 row.step) cand
       ∙ ap (λ z. row_with other.round other.cand.0 z row.step) prog ∙ ap (λ z. row_with other.round other.cand.0 other.prog.0 z) step
 

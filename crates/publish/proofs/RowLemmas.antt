@@ -1,8 +1,12 @@
 -- How the line of a row is taken apart.
-use Rattle.std.proofs.Common.{◌≡◌, ◌<◌, ◌^◌, ℕ, List, ◌∷◌, ◌++◌, length, refl, sym, subst, ◌∙◌, arith}
+use Rattle.std.proofs.Common.{◌≡◌, ◌≢◌, ◌<◌, ◌^◌, ℕ, List, ◌∷◌, ◌++◌, Some, None, length, refl, sym, subst, ◌∙◌, arith}
+use Rattle.std.proofs.lemmas.Bool.{false≢true}
 use Rattle.std.proofs.lemmas.Fmt.{decimal_injective}
 use Rattle.std.proofs.lemmas.List.{append_cancel_left}
+use Rattle.std.proofs.lemmas.Slice.Eq.{bytes_eq-Decides}
 use Rattle.std.specs.Fmt.{decimal}
+use Rattle.std.specs.Prelude.{bytes_eq}
+use Rattle.office_base.proofs.StepNumbers.{found_step, no_step}
 use Rattle.office_base.specs.declared.step.StepKind.{StepKind}
 use Rattle.published_texts.specs.Texts.{code_in}
 use Rattle.seat_matrix.specs.Matrix.{SeatTable}
@@ -12,7 +16,15 @@ use Rattle.text_readers.specs.Reading.{HasNo}
 use Rattle.text_readers.proofs.KnownLemmas.{code-clear, step-clear}
 use Rattle.text_readers.proofs.NumberLemmas.{digits-clear}
 use Rattle.text_readers.proofs.PartsLemmas.{cut-one, has-no-append, has-one}
-use Rattle.publish.specs.Rows.{IsRow, row_words}
+use Rattle.publish.specs.Rows.{IsRow, row_words, written_step}
+
+-- the name of a step is that of the step which is read of it
+pub step-written : (text : List ℕ) (step : StepKind) → written_step text ≡ Some step → text ≡ step_name step
+step-written text step found = (bytes_eq-Decides text (step_name step)).0 (found_step (λ s. bytes_eq text (step_name s)) step found)
+
+-- of which no step is read is the name of none
+pub no-step : (text : List ℕ) → written_step text ≡ None → (step : StepKind) → text ≢ step_name step
+no-step text none step same = false≢true (sym (no_step (λ s. bytes_eq text (step_name s)) none step) ∙ (bytes_eq-Decides text (step_name step)).1 same)
 
 module _ (word : List ℕ) (table : SeatTable) (line : List ℕ) (cand prog : ℕ) (step : StepKind) (spelled : AreSpelled table) (small : cand < 2 ^ 32) (row : IsRow word table line cand prog step) where
   pub row-rest : (rest : List ℕ) → line ≡ word ++ rest → rest ≡ decimal cand ++ 32 ∷ (code_in table prog ++ 32 ∷ step_name step)

@@ -1,8 +1,9 @@
 -- The texts of rounds and of final admissions as they are read: rows of candidates, programmes and steps.
-use Rattle.std.specs.Prelude.{◌≡◌, ◌<◌, ◌≤◌, ◌^◌, ◌==◌, ℕ, List, [], ◌∷◌, ◌++◌, Option, Some, None, length, map, codes, if◌then◌else◌}
+use Rattle.std.specs.Prelude.{◌≡◌, ◌<◌, ◌≤◌, ◌^◌, ◌==◌, ℕ, List, [], ◌∷◌, ◌++◌, Option, Some, None, bytes_eq, length, find, map, codes, if◌then◌else◌}
 use Rattle.std.specs.Fmt.{decimal}
 use Rattle.std.specs.List.{AllByRecursion, flat_map}
 use Rattle.kept_rows.specs.declared.rows.AllotRow.{AllotRow}
+use Rattle.office_base.specs.CategorySteps.{all_steps}
 use Rattle.office_base.specs.Lists.{IsSublist}
 use Rattle.office_base.specs.declared.person.Person.{Person}
 use Rattle.office_base.specs.declared.step.StepKind.{StepKind}
@@ -41,6 +42,10 @@ pub record IsRoundText (table : SeatTable) (people : List Person) (text : List �
   pub same : text ≡ round_rows_text table read.round read.rows
 
 -- ---- the same texts by their lines
+
+-- the step whose name the text is
+abbrev pub written_step : List ℕ → Option StepKind
+written_step text = find (λ step. bytes_eq text (step_name step)) all_steps
 
 -- a candidate, a programme and a step, with the first word of their line
 abbrev pub row_words : List ℕ → SeatTable → ℕ → ℕ → StepKind → List ℕ

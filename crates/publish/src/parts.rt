@@ -1,15 +1,14 @@
 // The parts of the line of a row.
-ghost use Rattle.std.specs.Prelude.{◌≡◌, ◌≢◌, ◌<◌, ◌^◌, IfNone, IfSome};
+ghost use Rattle.std.specs.Prelude.{◌≡◌, ◌<◌, ◌^◌, IfNone, IfSome};
 ghost use Rattle.std.specs.Option.{option_map};
-ghost use Rattle.office_base.specs.declared.step.StepKind.{StepKind as AnyStep};
-ghost use Rattle.step_lines.specs.Lines.{step_name};
 ghost use Rattle.text_readers.specs.Parts.{AreSpelled};
-ghost use Rattle.publish.specs.Rows.{IsNoRow, IsRow, people_after};
+ghost use Rattle.publish.specs.Rows.{IsNoRow, IsRow, people_after, written_step};
 
-use office_base::{CandId, Person, ProgId, StepKind};
+use office_base::{ALL_STEPS, CandId, Person, ProgId, StepKind};
 use office_text::laws::numbers_are_inverse;
 use office_text::read_number;
 use seat_matrix::Matrix;
+use step_lines::step_name;
 use text_readers::{after, cut, read_programme};
 
 /// Holds a row of a text: a candidate, a programme and a step.
@@ -22,24 +21,14 @@ pub(crate) struct Row {
 
 /// Returns the step that a text spells as it is written.
 fn written_step(text: &[u8]) -> Option<StepKind>
-    ensures some { IfSome result (λ step. text.now ≡ step_name step) }
-    ensures none { IfNone result ((step : AnyStep) → text.now ≢ step_name step) }
+    ensures { result ≡ written_step text.now }
 {
-    if text == b"OPEN".as_slice() {
-        Some(StepKind::Open)
-    } else if text == b"EWS".as_slice() {
-        Some(StepKind::Ews)
-    } else if text == b"OBC".as_slice() {
-        Some(StepKind::Obc)
-    } else if text == b"SC".as_slice() {
-        Some(StepKind::Sc)
-    } else if text == b"ST".as_slice() {
-        Some(StepKind::St)
-    } else if text == b"D".as_slice() {
-        Some(StepKind::Dereserved)
-    } else {
-        None
+    for step in ALL_STEPS {
+        if text == step_name(step).as_bytes() {
+            return Some(step);
+        }
     }
+    None
 }
 
 /// Returns the row of a line with this first word.

@@ -5,7 +5,7 @@ ghost use Rattle.text_readers.specs.Parts.{is_prefix};
 ghost use Rattle.publish.specs.Pieces.{BeginsCode, BeginsRow, BeginsRows, BeginsSeat, BeginsStep};
 
 use itoa::Buffer;
-use office_base::{CandId, Person, ProgId, StepKind};
+use office_base::{ALL_STEPS, CandId, Person, ProgId, StepKind};
 use seat_matrix::Matrix;
 use step_lines::step_name;
 use text_readers::{begins_whole, left_after};
@@ -14,12 +14,12 @@ use text_readers::{begins_whole, left_after};
 fn begins_step(piece: &[u8]) -> bool
     ensures { IsTrue result ↔ BeginsStep piece.now }
 {
-    begins_name(piece, StepKind::Open)
-        || begins_name(piece, StepKind::Ews)
-        || begins_name(piece, StepKind::Obc)
-        || begins_name(piece, StepKind::Sc)
-        || begins_name(piece, StepKind::St)
-        || begins_name(piece, StepKind::Dereserved)
+    for step in ALL_STEPS {
+        if begins_name(piece, step) {
+            return true;
+        }
+    }
+    false
 }
 
 /// Returns whether a piece begins the name of this step with the end of the line.

@@ -12,7 +12,7 @@ use Rattle.office_base.specs.Lists.{Pairwise}
 use Rattle.office_base.specs.declared.person.Person.{Person}
 use Rattle.office_base.specs.declared.person.ProgId.{ProgId}
 use Rattle.office_base.specs.declared.step.StepKind.{StepKind}
-use Rattle.office_base.specs.declared.step.StepKind.TheVariants.{Open, Ews, Obc, Sc, St, Dereserved}
+use Rattle.office_base.proofs.StepNumbers.{each_step}
 use Rattle.published_texts.specs.Texts.{code_in}
 use Rattle.rank_lists.specs.Register.{find_person}
 use Rattle.rank_lists.proofs.Known.{found_id}
@@ -31,12 +31,7 @@ code-clear byte code other spelled =
     has-no-tested is_code_byte byte code other all
 
 step-letters : (step : StepKind) → list_all is_code_byte (step_name step) ≡ true
-step-letters Open = refl
-step-letters Ews = refl
-step-letters Obc = refl
-step-letters Sc = refl
-step-letters St = refl
-step-letters Dereserved = refl
+step-letters = each_step (λ step. list_all is_code_byte (step_name step)) refl
 
 pub step-clear : (byte : ℕ) (step : StepKind) → is_code_byte byte ≡ false → HasNo byte (step_name step)
 step-clear byte step other = has-no-tested is_code_byte byte (step_name step) other (step-letters step)
