@@ -18,7 +18,7 @@ use Rattle.office_base.specs.declared.person.Place.TheVariants.{Absent, Common, 
 use Rattle.office_base.specs.declared.person.TraitSet.{TraitSet}
 use Rattle.office_base.specs.declared.step.Pair.{Pair}
 use Rattle.office_base.specs.declared.step.StepKind.{StepKind}
-use Rattle.office_base.specs.declared.step.StepKind.TheVariants.{Open, Ews, Obc, Sc, St, Dereserved}
+use Rattle.office_base.proofs.StepNumbers.{each_step}
 use Rattle.office_text.specs.Traits.{letter, letters}
 use Rattle.step_cutoffs.specs.declared.cutoff.Cutoff.{Cutoff}
 use Rattle.step_cutoffs.specs.declared.cutoff.Cutoff.TheVariants.{Nobody, UpTo, Anybody}
@@ -74,12 +74,7 @@ number n = some_digits 64 n [] IsAscii-nil
 -- ---- steps
 
 step : (kind : StepKind) → IsAscii (step_name kind)
-step Open = words (codes "OPEN") refl
-step Ews = words (codes "EWS") refl
-step Obc = words (codes "OBC") refl
-step Sc = words (codes "SC") refl
-step St = words (codes "ST") refl
-step Dereserved = words (codes "D") refl
+step kind = words (step_name kind) (each_step (λ k. list_all (λ b. nat_lt b 128) (step_name k)) refl kind)
 
 a_letter : (slot : Option ℕ) → slot_letter slot < 128
 a_letter None = omega arith

@@ -8,13 +8,12 @@ use Rattle.office_base.specs.Person.{has_trait}
 use Rattle.office_base.specs.declared.asks.Choice.{Choice}
 use Rattle.office_base.specs.declared.asks.Choice.TheVariants.{Freeze as ToFreeze, Float as ToFloat, Slide as ToSlide, Withdraw as ToWithdraw}
 use Rattle.office_base.specs.declared.asks.Seat.{Seat}
-use Rattle.office_base.specs.declared.person.Category.{Category}
-use Rattle.office_base.specs.declared.person.Category.TheVariants.{Gen, Ews, Obc, Sc, St}
 use Rattle.office_base.specs.declared.person.Person.{Person}
 use Rattle.office_base.specs.declared.person.Place.{Place}
 use Rattle.office_base.specs.declared.person.Place.TheVariants.{Absent, Common, Relaxed}
 use Rattle.office_base.specs.declared.person.ProgId.{ProgId}
 use Rattle.office_base.specs.declared.person.TraitSet.{TraitSet}
+pub use Rattle.office_text.specs.Names.{category_name}
 use Rattle.office_text.specs.Traits.{letter}
 use Rattle.step_cutoffs.specs.declared.cutoff.Cutoff.{Cutoff}
 use Rattle.step_cutoffs.specs.declared.cutoff.Cutoff.TheVariants.{Nobody, UpTo, Anybody}
@@ -107,14 +106,6 @@ choice_word table prog = codes " " ++ code_in table prog.0
 -- the line of a candidate's choice list
 abbrev pub choices_line : SeatTable → ℕ → List ProgId → List ℕ
 choices_line table cand progs = codes "choices " ++ decimal cand ++ flat_map (choice_word table) progs ++ codes "\n"
-
--- how the register spells a category
-abbrev pub category_name : Category → List ℕ
-category_name Gen = codes "GEN"
-category_name Ews = codes "EWS"
-category_name Obc = codes "OBC"
-category_name Sc = codes "SC"
-category_name St = codes "ST"
 
 -- the letter of a trait that the set has, and nothing for another one
 abbrev pub letter_if : TraitSet → ℕ → List ℕ

@@ -14,6 +14,7 @@ mod reply;
 mod words;
 
 pub use cutoffs::cutoffs_text;
+pub use office_text::category_name;
 pub use register::{push_place, push_traits};
 pub use reply::{reply_text, shown_text};
-pub use words::{category_name, choice_name, standing_name};
+pub use words::{choice_name, standing_name};

@@ -4,9 +4,8 @@ ghost use Rattle.std.specs.List.{flat_map};
 ghost use Rattle.reply_texts.specs.Replies.{letter_if, place_after, place_word, register_head, register_line, traits_word};
 
 use crate::refusals::{push_named, push_numbered};
-use crate::words::category_name;
 use office_base::{OutOfMemory, Person, Place, Text, TraitSet};
-use office_text::{letter_of, push_number};
+use office_text::{category_name, letter_of, push_number};
 use std::alloc::Global;
 
 /// Returns the line of what the register has of a candidate.

@@ -1,8 +1,8 @@
-// The words of choices, standings and categories.
+// The words of choices and standings.
 ghost use Rattle.std.specs.Prelude.{◌≡◌};
-ghost use Rattle.reply_texts.specs.Replies.{category_name, choice_name, standing_name};
+ghost use Rattle.reply_texts.specs.Replies.{choice_name, standing_name};
 
-use office_base::{Category, Choice};
+use office_base::Choice;
 use round_options::Standing;
 
 /// The word of a choice.
@@ -29,18 +29,5 @@ pub fn standing_name(standing: Standing) -> &'static str
         Standing::Slide => "slide",
         Standing::Withdrawn => "withdrawn",
         Standing::NoShow => "noshow",
-    }
-}
-
-/// Returns the word of a category, as the register spells it.
-pub fn category_name(category: Category) -> &'static str
-    ensures { result.now ≡ category_name category }
-{
-    match category {
-        Category::Gen => "GEN",
-        Category::Ews => "EWS",
-        Category::Obc => "OBC",
-        Category::Sc => "SC",
-        Category::St => "ST",
     }
 }
