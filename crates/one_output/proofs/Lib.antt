@@ -1,3 +1,3 @@
-pub mod Outputs
+mod Outputs
 mod Seasons
 mod Verdicts

@@ -1,25 +1,13 @@
 -- The same input gives the same output.
 use Rattle.std.specs.Prelude.{◌≡◌, ℕ, Bool, List}
 use Rattle.office_base.specs.declared.asks.Request.{Request}
-use Rattle.rank_lists.specs.Register.{find_holder}
 use Rattle.season_file.specs.Season.{BundleGives, IsSeason, IsSeasonWith, content_of}
 use Rattle.season_file.specs.declared.season.Season.{Season}
-use Rattle.office_moves.specs.Facts.{IsSound, SeasonFacts}
+use Rattle.office_moves.specs.Facts.{IsSound}
 use Rattle.season_facts.specs.Season.{facts_of}
 use Rattle.office_moves.specs.State.{State, opening}
 use Rattle.season_commands.specs.Runs.{Answers}
 use Rattle.season_commands.specs.Tally.{AreHandled, Handled, requests_of}
-
--- Two seasons say the same. Only the order in which a register keeps its tokens may differ; each token has the same holder.
-pub record SayTheSame (facts other : SeasonFacts) : Type 0 where
-  pub version : facts.version ≡ other.version
-  pub rounds : facts.rounds ≡ other.rounds
-  pub clerk : facts.clerk ≡ other.clerk
-  pub people : facts.people ≡ other.people
-  pub holders : (token : List ℕ) → find_holder token facts.holders ≡ find_holder token other.holders
-  pub matrix : facts.matrix ≡ other.matrix
-  pub lists : facts.lists ≡ other.lists
-  pub text : facts.text ≡ other.text
 
 -- What a season says is sound, whichever bytes give it with whichever requests.
 abbrev pub SeasonsAreSound : Type 0
@@ -28,11 +16,11 @@ SeasonsAreSound = (requests : Bool) (bytes : List ℕ) (season : Season) (row : 
 -- Bytes give one season and one script.
 abbrev pub OneSeason : Type 0
 OneSeason = (requests : Bool) (bytes : List ℕ) (season other : Season) (script more : List Request) → IsSeasonWith requests bytes season script → IsSeasonWith requests bytes other more
-    → SayTheSame (facts_of season) (facts_of other) × (script ≡ more)
+    → (facts_of season ≡ facts_of other) × (script ≡ more)
 
 -- The text of a season that is kept, or is in a dossier, gives one season.
 abbrev pub OneKeptSeason : Type 0
-OneKeptSeason = (bytes : List ℕ) (season other : Season) → IsSeason bytes season → IsSeason bytes other → SayTheSame (facts_of season) (facts_of other)
+OneKeptSeason = (bytes : List ℕ) (season other : Season) → IsSeason bytes season → IsSeason bytes other → facts_of season ≡ facts_of other
 
 -- What a season says is sound, and bytes give one season: those of a bundle, and a text that is kept or is in a dossier.
 pub record GiveOneSeason : Type 0 where

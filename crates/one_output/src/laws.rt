@@ -2,7 +2,7 @@
 ghost use Rattle.one_output.specs.Laws.{GiveOneSeason, OneOutput, OneTally};
 ghost use Rattle.one_output.specs.VerdictLaws.{OneVerdictOfBytes};
 
-/// Bytes give one season, but for the order in which its register keeps tokens, and one script.
+/// Bytes give one season and one script.
 /// So does the text of a season that is kept, or is in a dossier. What the season says is sound.
 pub fn one_season()
     ensures { GiveOneSeason }

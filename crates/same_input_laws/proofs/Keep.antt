@@ -8,9 +8,7 @@ use Rattle.office_moves.specs.History.{IsHistory, Reaches}
 use Rattle.office_moves.specs.Stands.{AreRecordsOf, Stand}
 use Rattle.office_moves.specs.State.{State, opening}
 use Rattle.office_moves.specs.declared.moves.Entry.{Entry}
-use Rattle.one_output.specs.Laws.{SayTheSame}
-use Rattle.same_input_laws.specs.Keep.{AreSameRecords, HistoriesKeepOne, HoldTheSame}
-use Rattle.same_input_laws.proofs.Tokens.{kept_so, same_season}
+use Rattle.same_input_laws.specs.Keep.{AreSameRecords, HistoriesKeepOne, HoldTheSame, SayTheSame}
 
 -- ---- one state
 
@@ -30,7 +28,28 @@ hold_same facts state (Records records) Untold first second = tt
 hold_same facts state (Records records) NoSeason first second = absurd second
 hold_same facts state (Records records) (Records other) first second = same_records facts state records other first second
 
+-- Tables of one season in one state hold the same.
+pub stand_alike : (facts other : SeasonFacts) (state then : State) (tables more : Tables) → facts ≡ other → state ≡ then → Stand facts state tables → Stand other then more → HoldTheSame tables more
+stand_alike facts other state then tables more same states first second =
+    hold_same facts state tables more first (subst (λ (s : State). Stand facts s more) (sym states) (subst (λ (f : SeasonFacts). Stand f then more) (sym same) second))
+
 -- ---- another order of tokens
+
+-- the season with its tokens kept in another order
+abbrev kept_so : SeasonFacts → List (List ℕ × CandId) → SeasonFacts
+kept_so facts holders = record facts { holders = holders }
+
+same_season : (facts other : SeasonFacts) → SayTheSame facts other → kept_so facts other.holders ≡ other
+same_season facts other same = λ i. record {
+  version = same.version i;
+  rounds = same.rounds i;
+  clerk = same.clerk i;
+  people = same.people i;
+  holders = other.holders;
+  matrix = same.matrix i;
+  lists = same.lists i;
+  text = same.text i;
+}
 
 stand_too : (facts : SeasonFacts) (holders : List (List ℕ × CandId)) (state : State) (tables : Tables) → Stand (kept_so facts holders) state tables → Stand facts state tables
 stand_too facts holders state Untold stands = tt
@@ -42,20 +61,14 @@ reaches_too : (facts : SeasonFacts) (holders : List (List ℕ × CandId)) (old n
 reaches_too facts holders old new [] reached = reached
 reaches_too facts holders old new (entry ∷ entries) reached = (reached.0, reached.1, reached.2, reached.3, reaches_too facts holders reached.0 new entries reached.4)
 
--- Tables of two seasons that say the same hold the same, where they represent one state.
-pub stand_alike : (facts other : SeasonFacts) (state then : State) (tables more : Tables) → SayTheSame facts other → state ≡ then → Stand facts state tables → Stand other then more
-    → HoldTheSame tables more
-stand_alike facts other state then tables more same states first second =
-    let by_season : Stand (kept_so facts other.holders) then more = subst (λ (f : SeasonFacts). Stand f then more) (sym (same_season facts other same)) second in
-    let by_state = subst (λ (s : State). Stand facts s more) (sym states) (stand_too facts other.holders then more by_season) in
-    hold_same facts state tables more first by_state
-
 pub histories_keep_one : ((facts : SeasonFacts) (entries : List Entry) (state other : State) → IsSound facts → IsHistory facts entries state → IsHistory facts entries other → state ≡ other)
     → HistoriesKeepOne
 histories_keep_one one facts other entries state then tables more sound same first second stands its =
-    let by_season : IsHistory (kept_so facts other.holders) entries then = subst (λ (f : SeasonFacts). IsHistory f entries then) (sym (same_season facts other same)) second in
+    let season = sym (same_season facts other same) in
+    let by_season : IsHistory (kept_so facts other.holders) entries then = subst (λ (f : SeasonFacts). IsHistory f entries then) season second in
     let again : IsHistory facts entries then = record { numbers = by_season.numbers; reached = reaches_too facts other.holders opening then entries by_season.reached } in
-    stand_alike facts other state then tables more same (one facts entries state then sound first again) stands its
+    let by_stand = stand_too facts other.holders then more (subst (λ (f : SeasonFacts). Stand f then more) season its) in
+    hold_same facts state tables more stands (subst (λ (s : State). Stand facts s more) (sym (one facts entries state then sound first again)) by_stand)
 
 -- ---- tables that were left
 

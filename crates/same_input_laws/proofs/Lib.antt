@@ -4,7 +4,6 @@ mod ResumeEnds
 pub mod Keep
 pub mod Replayed
 pub mod Resumed
-pub mod Tokens
 pub mod UnitEnds
 mod SpecialEnds
 mod Remaining

@@ -1,23 +1,25 @@
 -- What final rows leave of a matrix is one.
-use Rattle.std.proofs.Common.{◌≡◌, ◌≢◌, ◌<◌, ℕ, suc, Bool, true, false, List, [], ◌∷◌, Option, Some, None, length, arith, refl, sym, ap, ◌∙◌, subst, if◌then◌else◌}
+use Rattle.std.proofs.Common.{◌≡◌, ◌≢◌, ◌<◌, ℕ, suc, Bool, true, false, List, [], ◌∷◌, Option, Some, None, length, map, arith, inl, inr, refl, sym, ap, ◌∙◌, subst, if◌then◌else◌}
 use Rattle.std.specs.Prelude.{slice_index_or}
 use Rattle.std.specs.List.{AllByRecursion}
+use Rattle.std.proofs.lemmas.Bool.{cases_Bool}
+use Rattle.office_base.specs.CategorySteps.{own_steps}
 use Rattle.office_base.specs.Lists.{Pairwise}
 use Rattle.office_base.specs.Merit.{in_merit}
 use Rattle.office_base.specs.declared.person.ListId.{ListId}
 use Rattle.office_base.specs.declared.person.Person.{Person}
 use Rattle.office_base.specs.declared.step.StepKind.{StepKind}
-use Rattle.office_base.specs.declared.step.StepKind.TheVariants.{Open, Ews, Obc, Sc, St}
 use Rattle.placements.specs.Ranks.{AreDistinct}
 use Rattle.slot_cert.specs.Laws.{OneCertificate}
 use Rattle.merit_choice.proofs.InMerit.{all_in_merit, pairwise_with}
 use Rattle.kept_rows.specs.declared.rows.AllotRow.{AllotRow}
 use Rattle.rank_lists.specs.Register.{find_person}
 use Rattle.seat_matrix.specs.Matrix.{AreSeats, SeatTable, list_in, seating_in, steps_in}
-use Rattle.seat_matrix.specs.Seats.{is_dereserved, no_seatings}
+use Rattle.seat_matrix.specs.Seats.{is_dereserved, no_seatings, of_step}
 use Rattle.seat_matrix.specs.declared.seats.Seating.{Seating}
 use Rattle.seat_matrix.specs.declared.seats.Seatings.{Seatings}
-use Rattle.special_round.specs.Remaining.{IsLeft, IsRemaining, protections_left, seats_left}
+use Rattle.seat_matrix.proofs.SeatsLemmas.{none_own}
+use Rattle.special_round.specs.Remaining.{AreOwn, IsLeft, IsRemaining, protections_left, seats_left}
 use Rattle.special_round.specs.Rows.{before_those, finals_of, is_row_of}
 use Rattle.rank_lists.proofs.Known.{found_id as found_is}
 
@@ -77,8 +79,15 @@ one_left one list old persons seats left other distinct first second =
 
 -- ---- the matrix
 
-same_steps : (left other : Seatings) → left.open_step ≡ other.open_step → left.ews ≡ other.ews → left.obc ≡ other.obc → left.sc ≡ other.sc → left.st ≡ other.st → left ≡ other
-same_steps left other first ews obc sc st = λ i. record { open_step = first i; ews = ews i; obc = obc i; sc = sc i; st = st i }
+-- the seats of a programme are those of its steps, so two are the same where each step with seats of its own has the same
+same_steps : (left other : Seatings) → AreOwn left → AreOwn other → ((step : StepKind) → is_dereserved step ≡ false → of_step left step ≡ of_step other step) → left ≡ other
+same_steps left other own own' same =
+    let each : (step : StepKind) → of_step left step ≡ of_step other step = λ step. elim (cases_Bool (is_dereserved step)) [
+      | inl last ↦ none_own left step last ∙ sym (none_own other step last)
+      | inr first ↦ same step first
+    ] in
+    let all = own ∙ (ap (λ (f : StepKind → Seating). map f own_steps) (λ i step. each step i) ∙ sym own') in
+    λ i. record { own = all i }
 
 each_step : (xs ys : List Seatings) → length xs ≡ length ys → ((k : ℕ) → k < length xs → slice_index_or xs k no_seatings ≡ slice_index_or ys k no_seatings) → xs ≡ ys
 each_step [] [] full same = refl
@@ -106,4 +115,4 @@ one_remaining one people rows table left other rising seats seats' first second 
         (distinct_in_merit (list_in table k) (finals_of people rows k step) (distinct_finals people rows k step rising)) (first.steps k step less own) (second.steps k step less own)
 
     each : (k : ℕ) → k < length table.programmes → steps_in left k ≡ steps_in other k
-    each k less = same_steps (steps_in left k) (steps_in other k) (one_step k less Open refl) (one_step k less Ews refl) (one_step k less Obc refl) (one_step k less Sc refl) (one_step k less St refl)
+    each k less = same_steps (steps_in left k) (steps_in other k) (first.alone k less) (second.alone k less) (λ step own. one_step k less step own)

@@ -1,15 +1,14 @@
 -- `resume` writes the same for the same input.
-use Rattle.std.proofs.Common.{◌≡◌, ◌⊎◌, inl, inr, ℕ, List, [], ◌∷◌, Some, refl, sym, subst}
+use Rattle.std.proofs.Common.{◌≡◌, ◌⊎◌, inl, inr, ℕ, List, Some, refl, sym, subst}
 use Rattle.office_base.specs.declared.asks.Request.{Request}
-use Rattle.office_base.specs.declared.person.CandId.{CandId}
 use Rattle.kept_rows.specs.Tables.{AreTold, Tables, still}
 use Rattle.kept_rows.specs.declared.rows.Kept.{Kept}
-use Rattle.office_moves.specs.Facts.{SeasonFacts}
+use Rattle.office_moves.specs.Facts.{IsSound, SeasonFacts}
+use Rattle.replays.specs.Replay.{IsReplayed}
 use Rattle.office_moves.specs.State.{State}
 use Rattle.histories.specs.Laws.{HistoryGrows}
 use Rattle.round_cut.specs.Resume.{IsResumed}
 use Rattle.season_commands.specs.Laws.{OneRun}
-use Rattle.shown_replies.specs.Shown.{reply_bytes}
 use Rattle.season_commands.specs.Runs.{AfterSome, Answers}
 use Rattle.command_answers.specs.Answers.{HaveOneAnswer}
 use Rattle.command_answers.specs.Status.{IsAnswered}
@@ -24,17 +23,9 @@ use Rattle.same_input_laws.specs.Keep.{HoldTheSame}
 use Rattle.same_input_laws.specs.ResumeOutputs.{ResumesAreOne}
 use Rattle.same_input_laws.proofs.Keep.{left_alike, stand_alike}
 use Rattle.same_input_laws.proofs.Replayed.{history_replayed}
-use Rattle.same_input_laws.proofs.Resumed.{AreAlike, AreKept, ReadingsAreOne, no_unresumed, one_unresumed, one_unresumed_status, resumed_alike, same_tables}
-use Rattle.same_input_laws.proofs.Tokens.{kept_so, same_season}
+use Rattle.same_input_laws.proofs.Resumed.{AreKept, ReadingsAreOne, no_unresumed, of_first, one_unresumed, one_unresumed_status, resumed_alike, same_tables}
 
 -- ---- requests that are answered from one state
-
-answers_too : (facts : SeasonFacts) (holders : List (List ℕ × CandId)) (old new : State) (script : List Request) (output : List ℕ) → Answers (kept_so facts holders) old script output new
-    → Answers facts old script output new
-unfolding reply_bytes
-answers_too facts holders old new [] output answers = answers
-answers_too facts holders old new (request ∷ script) output answers =
-    (answers.0, answers.1, answers.2, answers.3, answers.4, answers_too facts holders answers.1 new script answers.2 answers.5)
 
 one_script : (bytes : List ℕ) (script more : List Request) → AreLeftRequests (Some bytes) script → AreLeftRequests (Some bytes) more → more ≡ script
 one_script bytes script more first second =
@@ -43,30 +34,26 @@ one_script bytes script more first second =
     cc (a, b)
 
 -- The same requests have one output and lead to one state, from where the same records lead.
-one_run : ((facts : SeasonFacts) → HistoryGrows facts) → ((facts : SeasonFacts) → OneRun facts) → (facts other : SeasonFacts) (state then end last : State) (kept : Kept)
-    (script more : List Request) (output again : List ℕ) → AreAlike facts other state then kept → more ≡ script → Answers facts state script output end
-    → Answers other then more again last → (output ≡ again) × (end ≡ last)
-one_run grows run facts other state then end last kept script more output again alike scripts first second =
-    let history = history_replayed facts (grows facts) alike.sound kept state alike.replayed in
-    let by_season : Answers (kept_so facts other.holders) then more again last =
-    subst (λ (f : SeasonFacts). Answers f then more again last) (sym (same_season facts other alike.seasons)) second in
-    let by_state = subst (λ (s : State). Answers facts s more again last) (sym alike.states) (answers_too facts other.holders then last more again by_season) in
-    let by_script = subst (λ (s : List Request). Answers facts state s again last) scripts by_state in
-    run facts alike.sound history.0 state end last script output again history.1 first by_script
+one_run : ((facts : SeasonFacts) → HistoryGrows facts) → ((facts : SeasonFacts) → OneRun facts) → (facts : SeasonFacts) (state end last : State) (kept : Kept)
+    (script more : List Request) (output again : List ℕ) → IsSound facts → IsReplayed facts kept state → more ≡ script → Answers facts state script output end
+    → Answers facts state more again last → (output ≡ again) × (end ≡ last)
+one_run grows run facts state end last kept script more output again sound replayed scripts first second =
+    let history = history_replayed facts (grows facts) sound kept state replayed in
+    run facts sound history.0 state end last script output again history.1 first (subst (λ (s : List Request). Answers facts state s again last) scripts second)
 
 one_asked : ((bytes : List ℕ) → HaveOneAnswer script_answers bytes) → ((facts : SeasonFacts) → HistoryGrows facts) → ((facts : SeasonFacts) → OneRun facts) → (bytes : List ℕ)
-    (facts other : SeasonFacts) (state then : State) (kept : Kept) (before after later : Tables) (status : Status) (output again : List ℕ) → IsAnswered status
-    → AreAlike facts other state then kept → EndsAsked facts state (Some bytes) before after status output → EndsAsked other then (Some bytes) before later status again → output ≡ again
-one_asked one grows run bytes facts other state then kept before after later status output again answered alike = by_answer Same done usage bad differs broken status answered
+    (facts : SeasonFacts) (state : State) (kept : Kept) (before after later : Tables) (status : Status) (output again : List ℕ) → IsAnswered status → IsSound facts → IsReplayed facts kept state
+    → EndsAsked facts state (Some bytes) before after status output → EndsAsked facts state (Some bytes) before later status again → output ≡ again
+one_asked one grows run bytes facts state kept before after later status output again answered sound replayed = by_answer Same done usage bad differs broken status answered
   where
     Same : Status → Type 0
-    Same s = EndsAsked facts state (Some bytes) before after s output → EndsAsked other then (Some bytes) before later s again → output ≡ again
+    Same s = EndsAsked facts state (Some bytes) before after s output → EndsAsked facts state (Some bytes) before later s again → output ≡ again
 
     done : Same Done
     done (inl first) second = absurd (whole _ Done output tt first.0).2
     done (inr first) (inl second) = absurd (whole _ Done again tt second.0).2
     done (inr first) (inr second) =
-        (one_run grows run facts other state then first.2.0 second.2.0 kept first.0 second.0 output again alike (one_script bytes first.0 second.0 first.1 second.1)
+        (one_run grows run facts state first.2.0 second.2.0 kept first.0 second.0 output again sound replayed (one_script bytes first.0 second.0 first.1 second.1)
         first.2.1.answers second.2.1.answers).0
 
     usage : Same Usage
@@ -146,24 +133,24 @@ done_keeps : (bytes : List ℕ) (facts : SeasonFacts) (state : State) (before af
 done_keeps bytes facts state before after output (inl first) = absurd (whole _ Done output tt first.0).2
 done_keeps bytes facts state before after output (inr first) = first
 
-asked_alike : ((facts : SeasonFacts) → HistoryGrows facts) → ((facts : SeasonFacts) → OneRun facts) → (bytes : List ℕ) (facts other : SeasonFacts) (state then : State) (kept : Kept)
-    (before after later : Tables) (status : Status) (output again : List ℕ) → IsAnswered status → AreAlike facts other state then kept → EndsAsked facts state (Some bytes) before after status output
-    → EndsAsked other then (Some bytes) before later status again → HoldTheSame after later
-asked_alike grows run bytes facts other state then kept before after later status output again answered alike first second =
+asked_alike : ((facts : SeasonFacts) → HistoryGrows facts) → ((facts : SeasonFacts) → OneRun facts) → (bytes : List ℕ) (facts : SeasonFacts) (state : State) (kept : Kept)
+    (before after later : Tables) (status : Status) (output again : List ℕ) → IsAnswered status → IsSound facts → IsReplayed facts kept state → EndsAsked facts state (Some bytes) before after status output
+    → EndsAsked facts state (Some bytes) before later status again → HoldTheSame after later
+asked_alike grows run bytes facts state kept before after later status output again answered sound replayed first second =
     elim (asked_keeps bytes facts state before after status output answered first) [
-      | inl left ↦ elim (asked_keeps bytes other then before later status again answered second) [
+      | inl left ↦ elim (asked_keeps bytes facts state before later status again answered second) [
         | inl its ↦ left_alike before after later left its
-        | inr done ↦ by_done (subst (λ (s : Status). EndsAsked facts state (Some bytes) before after s output) done.0 first) (subst (λ (s : Status). EndsAsked other then (Some bytes) before later s again) done.0 second)
+        | inr done ↦ by_done (subst (λ (s : Status). EndsAsked facts state (Some bytes) before after s output) done.0 first) (subst (λ (s : Status). EndsAsked facts state (Some bytes) before later s again) done.0 second)
       ]
-      | inr done ↦ by_done (subst (λ (s : Status). EndsAsked facts state (Some bytes) before after s output) done.0 first) (subst (λ (s : Status). EndsAsked other then (Some bytes) before later s again) done.0 second)
+      | inr done ↦ by_done (subst (λ (s : Status). EndsAsked facts state (Some bytes) before after s output) done.0 first) (subst (λ (s : Status). EndsAsked facts state (Some bytes) before later s again) done.0 second)
     ]
   where
-    by_done : EndsAsked facts state (Some bytes) before after Done output → EndsAsked other then (Some bytes) before later Done again → HoldTheSame after later
+    by_done : EndsAsked facts state (Some bytes) before after Done output → EndsAsked facts state (Some bytes) before later Done again → HoldTheSame after later
     by_done one two =
         let a = done_keeps bytes facts state before after output one in
-        let b = done_keeps bytes other then before later again two in
-        let same = one_run grows run facts other state then a.2.0 b.2.0 kept a.0 b.0 output again alike (one_script bytes a.0 b.0 a.1 b.1) a.2.1.answers b.2.1.answers in
-        stand_alike facts other a.2.0 b.2.0 after later alike.seasons same.1 a.2.1.stands b.2.1.stands
+        let b = done_keeps bytes facts state before later again two in
+        let same = one_run grows run facts state a.2.0 b.2.0 kept a.0 b.0 output again sound replayed (one_script bytes a.0 b.0 a.1 b.1) a.2.1.answers b.2.1.answers in
+        stand_alike facts facts a.2.0 b.2.0 after later refl same.1 a.2.1.stands b.2.1.stands
 
 -- ---- the command
 
@@ -202,7 +189,8 @@ resumes_are_one readings one laws grows run bytes output again before after late
     by (inl a) (inr b) = absurd (none b.0 b.1 status output answered b.2 a.0)
     by (inr a) (inl b) = absurd (none a.0 a.1 status again answered a.2 b.0)
     by (inr a) (inr b) =
-        let alike = resumed_alike laws tables told a.0 b.0 a.1 b.1 a.2 b.2 in (
-          one_asked one grows run bytes a.0 b.0 a.1 b.1 alike.0 before after later status output again answered alike.1 a.3 b.3,
-          asked_alike grows run bytes a.0 b.0 a.1 b.1 alike.0 before after later status output again answered alike.1 a.3 b.3,
+        let alike = resumed_alike laws tables told a.0 b.0 a.1 b.1 a.2 b.2 in
+        let its = of_first a.0 b.0 a.1 b.1 alike.0 alike.1 (λ (facts : SeasonFacts) (start : State). EndsAsked facts start (Some bytes) before later status again) b.3 in (
+          one_asked one grows run bytes a.0 a.1 alike.0 before after later status output again answered alike.1.sound alike.1.replayed a.3 its,
+          asked_alike grows run bytes a.0 a.1 alike.0 before after later status output again answered alike.1.sound alike.1.replayed a.3 its,
         )

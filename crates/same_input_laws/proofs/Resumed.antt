@@ -1,8 +1,7 @@
--- The same visible tables lead to one state of one season, but for the order in which a register keeps its tokens; or they have one line of a fault.
+-- The same visible tables lead to one state of one season, or they have one line of a fault.
 use Rattle.std.proofs.Common.{◌≡◌, inl, inr, ℕ, Bool, false, List, [], refl, sym, ap, ◌∙◌, subst}
 use Rattle.kept_rows.specs.Tables.{IsTold, NoSeason, Records, Tables, Untold, still}
 use Rattle.kept_rows.specs.declared.rows.Kept.{Kept}
-use Rattle.seat_matrix.specs.Matrix.{SeatTable}
 use Rattle.season_file.specs.Laws.{HasFault, HaveOneReading}
 use Rattle.season_file.specs.Season.{IsSeason, content_of}
 use Rattle.season_file.specs.declared.fault.SeasonFault.{SeasonFault}
@@ -22,10 +21,8 @@ use Rattle.command_answers.specs.declared.status.Status.TheVariants.{BadInput, D
 use Rattle.command_answers.proofs.Answered.{by_answer}
 use Rattle.season_commands.specs.Resume.{IsKeptFaultLine, IsReplayFaultLine, IsUnresumedText}
 use Rattle.season_commands.specs.Stray.{replay_line}
-use Rattle.one_output.specs.Laws.{OneKeptSeason, SayTheSame, SeasonsAreSound}
+use Rattle.one_output.specs.Laws.{OneKeptSeason, SeasonsAreSound}
 use Rattle.same_input_laws.specs.ResumeOutputs.{IsVisible}
-use Rattle.same_input_laws.proofs.Replayed.{fault_too, replayed_too}
-use Rattle.same_input_laws.proofs.Tokens.{same_season}
 
 -- Records of a season lead to one state, or have one first fault.
 abbrev pub RecordsAreOne : Type 0
@@ -57,26 +54,25 @@ same_tables before (Records kept) (Records more) told seen = refl
 
 -- ---- an office resumes
 
--- What two seasons and their states are to which the same records lead: sound, and the same.
+-- What two seasons and their states are to which the same records lead: the same, and the season is sound.
 pub record AreAlike (facts other : SeasonFacts) (state then : State) (kept : Kept) : Type 0 where
   pub sound : IsSound facts
-  pub other_sound : IsSound other
-  pub seasons : SayTheSame facts other
+  pub seasons : facts ≡ other
   pub states : state ≡ then
   pub replayed : IsReplayed facts kept state
 
+-- what holds of the one holds of the other
+pub of_first : (facts other : SeasonFacts) (state then : State) (kept : Kept) → AreAlike facts other state then kept → (Holds : SeasonFacts → State → Type 0) → Holds other then → Holds facts state
+of_first facts other state then kept alike Holds held = subst (Holds facts) (sym alike.states) (subst (λ (f : SeasonFacts). Holds f then) (sym alike.seasons) held)
+
 lead_alike : AreKept → (kept : Kept) (facts other : SeasonFacts) (state then : State) → LeadTo kept facts state → LeadTo kept other then → AreAlike facts other state then kept
 lead_alike laws kept facts other state then first second =
-    let said = laws.seasons kept.season first.season second.season first.read second.read in
-    let by_first = subst (λ (f : SeasonFacts). SayTheSame f (facts_of second.season)) (sym first.same) said in
-    let same : SayTheSame facts other = subst (λ (f : SeasonFacts). SayTheSame facts f) (sym second.same) by_first in
+    let same : facts ≡ other = first.same ∙ laws.seasons kept.season first.season second.season first.read second.read ∙ sym second.same in
     let sound = subst IsSound (sym first.same) (kept_sound laws kept.season first.season first.read) in
-    let replayed = replayed_too facts other.holders kept then (subst (λ (f : SeasonFacts). IsReplayed f kept then) (sym (same_season facts other same)) second.replayed) in
     record {
       sound = sound;
-      other_sound = subst IsSound (sym second.same) (kept_sound laws kept.season second.season second.read);
       seasons = same;
-      states = (laws.records facts kept sound).one_state state then first.replayed replayed;
+      states = (laws.records facts kept sound).one_state state then first.replayed (subst (λ (f : SeasonFacts). IsReplayed f kept then) (sym same) second.replayed);
       replayed = first.replayed;
     }
 
@@ -112,10 +108,9 @@ one_replay_line : AreKept → (kept : Kept) (line again : List ℕ) → IsReplay
 one_replay_line laws kept line again first second =
     let facts = facts_of first.0 in
     let said = laws.seasons kept.season first.0 second.0 first.2 second.2 in
-    let by_season = subst (λ (f : SeasonFacts). IsReplayFault f kept second.1) (sym (same_season facts (facts_of second.0) said)) second.3 in
-    let fault = fault_too facts (facts_of second.0).holders kept second.1 by_season in
+    let fault = subst (λ (f : SeasonFacts). IsReplayFault f kept second.1) (sym said) second.3 in
     let same = (laws.records facts kept (kept_sound laws kept.season first.0 first.2)).one_fault first.1 second.1 first.3 fault first.4 second.4 in
-    first.5 ∙ (ap (λ (f : ReplayFault). replay_line first.0.matrix f) same ∙ (ap (λ (t : SeatTable). replay_line t second.1) said.matrix ∙ sym second.5))
+    first.5 ∙ (ap (λ (f : ReplayFault). replay_line first.0.matrix f) same ∙ (ap (λ (f : SeasonFacts). replay_line f.matrix second.1) said ∙ sym second.5))
 
 one_difference : AreKept → (tables : Tables) → IsTold tables → (line again : List ℕ) → IsUnresumedText tables Differs line → IsUnresumedText tables Differs again → line ≡ again
 one_difference laws Untold told line again first second = absurd told
@@ -145,10 +140,8 @@ no_kept_line readings (Records kept) told facts state line resumed (inr is) =
 no_replay_line : AreKept → (kept : Kept) (facts : SeasonFacts) (state : State) (line : List ℕ) → LeadTo kept facts state → IsReplayFaultLine kept line → ⊥
 no_replay_line laws kept facts state line lead is =
     let sound = subst IsSound (sym lead.same) (kept_sound laws kept.season lead.season lead.read) in
-    let said = laws.seasons kept.season lead.season is.0 lead.read is.2 in
-    let by_lead : SayTheSame facts (facts_of is.0) = subst (λ (f : SeasonFacts). SayTheSame f (facts_of is.0)) (sym lead.same) said in
-    let by_season = subst (λ (f : SeasonFacts). IsReplayFault f kept is.1) (sym (same_season facts (facts_of is.0) by_lead)) is.3 in
-    is.4 ((laws.records facts kept sound).apart state is.1 lead.replayed (fault_too facts (facts_of is.0).holders kept is.1 by_season))
+    let said : facts ≡ facts_of is.0 = lead.same ∙ laws.seasons kept.season lead.season is.0 lead.read is.2 in
+    is.4 ((laws.records facts kept sound).apart state is.1 lead.replayed (subst (λ (f : SeasonFacts). IsReplayFault f kept is.1) (sym said) is.3))
 
 no_difference : AreKept → (tables : Tables) → IsTold tables → (facts : SeasonFacts) (state : State) (line : List ℕ) → IsResumed tables facts state → IsUnresumedText tables Differs line → ⊥
 no_difference laws Untold told facts state line resumed is = told

@@ -1,83 +1,67 @@
 -- Lists that show the choice of a programme break no clause.
-use Rattle.std.proofs.Common.{◌≡◌, ◌≢◌, ◌≤◌, ◌+◌, ◌-◌, ℕ, Bool, true, false, List, [], ◌∷◌, length, refl, sym, ap, ◌∙◌, subst, arith, ◌==◌, if◌then◌else◌}
-use Rattle.std.specs.Prelude.{min, slice_index_or}
+use Rattle.std.proofs.Common.{◌≡◌, ◌≢◌, ◌≤◌, ◌+◌, ◌-◌, ℕ, zero, suc, Bool, true, false, List, [], ◌∷◌, Some, length, refl, sym, ap, ◌∙◌, subst, arith, if◌then◌else◌}
+use Rattle.std.specs.Prelude.{min, slice_get, slice_index_or}
 use Rattle.std.specs.List.{AllByRecursion, AllZip}
 use Rattle.std.proofs.lemmas.List.{length-take}
+use Rattle.std.proofs.lemmas.List.Sums.{sum-map}
 use Rattle.office_base.proofs.Lists.{all_from, at_among}
-use Rattle.office_base.specs.Lists.{IsAmong, IsSublist, Pairwise}
+use Rattle.office_base.proofs.StepNumbers.{kind_at}
+use Rattle.office_base.specs.CategorySteps.{all_steps, category_steps, gives_up}
+use Rattle.office_base.specs.Lists.{IsAmong, Pairwise}
 use Rattle.office_base.specs.Merit.{in_merit}
-use Rattle.office_base.specs.Person.{IsBetter, is_common}
+use Rattle.office_base.specs.Person.{IsBetter}
 use Rattle.office_base.specs.Placement.{IsHonoured, IsPlacement}
 use Rattle.office_base.specs.StepChoice.{AreRanked}
 use Rattle.office_base.specs.StepNumbers.{step_number}
-use Rattle.office_base.specs.declared.person.ListId.{ListId}
+use Rattle.office_base.specs.declared.category_steps.CategoryStep.{CategoryStep}
 use Rattle.office_base.specs.declared.person.Person.{Person}
-use Rattle.office_base.specs.declared.person.Category.TheVariants.{Ews as EwsMember, Obc as ObcMember, Sc as ScMember, St as StMember}
 use Rattle.office_base.specs.declared.step.StepKind.{StepKind}
-use Rattle.office_base.specs.declared.step.StepKind.TheVariants.{Open, Ews, Obc, Sc, St, Dereserved}
+use Rattle.office_base.specs.declared.step.StepKind.TheVariants.{Dereserved}
 use Rattle.placements.specs.Ranks.{AreAmong, AreDistinct, without as without_one}
-use Rattle.placements.proofs.Filters.{filter-sublist}
 use Rattle.placements.proofs.Greatest.{honoured-exists}
 use Rattle.placements.proofs.Ranks.{among_sublist, one_person, ranked_sublist, widen}
-use Rattle.placements.proofs.Sublists.{sublist_again}
 use Rattle.placements.proofs.Without.{distinct_without, without_among}
 use Rattle.seat_matrix.specs.Seats.{AreProgrammeSeats, seats_of}
+use Rattle.seat_matrix.specs.Unfilled.{left_unfilled}
 use Rattle.seat_matrix.specs.declared.seats.ProgrammeSeats.{ProgrammeSeats}
 use Rattle.programme_lists.specs.Chosen.{AreApplicants, ShowsFrom}
 use Rattle.programme_lists.specs.Listing.{ShowsStep}
-use Rattle.programme_lists.specs.Programme.{Admissions, IsProgrammeChoice, admitted_by, is_of, people_of, unfilled, without}
+use Rattle.programme_lists.specs.Programme.{Admissions, IsProgrammeChoice, admitted_by, people_of, unfilled}
 use Rattle.programme_lists.specs.declared.programme.Programme.{Programme}
 use Rattle.programme_lists.specs.declared.programme.StepList.{StepList}
+use Rattle.programme_lists.proofs.Table.{row_facts}
 use Rattle.merit_choice.specs.InMerit.{InMeritRanks}
 use Rattle.merit_choice.specs.Laws.{ChoiceSize}
+use Rattle.programme_lists.proofs.Parts.{people_part}
+use Rattle.round_laws.proofs.Everybody.{own_filled}
+use Rattle.office_moves.proofs.Sums.{rows_plus, rows_same}
 use Rattle.axiom_laws.specs.Laws.{AxiomsAreTheRule, MeetsThemAtEachStep}
-use Rattle.list_audit.specs.Clauses.{HasSeats, IsSound, audited, list_of_step, named_by, no_list}
+use Rattle.list_audit.specs.Clauses.{HasSeats, IsSound, audited, list_of_step, named_by, no_list, shared}
 use Rattle.list_audit.specs.Exchanges.{Overtakes}
 
 -- ---- the list of a step
 
-shown_at : (P : StepKind → StepList → Type 0) (lists : List StepList) → AllZip P (Open ∷ Ews ∷ Obc ∷ Sc ∷ St ∷ Dereserved ∷ []) lists → (kind : StepKind)
-    → P kind (slice_index_or lists (step_number kind) no_list)
-shown_at P [] zip kind = absurd zip
-shown_at P (a ∷ []) zip kind = absurd zip.1
-shown_at P (a ∷ b ∷ []) zip kind = absurd zip.1.1
-shown_at P (a ∷ b ∷ c ∷ []) zip kind = absurd zip.1.1.1
-shown_at P (a ∷ b ∷ c ∷ d ∷ []) zip kind = absurd zip.1.1.1.1
-shown_at P (a ∷ b ∷ c ∷ d ∷ e ∷ []) zip kind = absurd zip.1.1.1.1.1
-shown_at P (a ∷ b ∷ c ∷ d ∷ e ∷ f ∷ g ∷ lists) zip kind = absurd zip.1.1.1.1.1.1
-shown_at P (a ∷ b ∷ c ∷ d ∷ e ∷ f ∷ []) zip Open = zip.0
-shown_at P (a ∷ b ∷ c ∷ d ∷ e ∷ f ∷ []) zip Ews = zip.1.0
-shown_at P (a ∷ b ∷ c ∷ d ∷ e ∷ f ∷ []) zip Obc = zip.1.1.0
-shown_at P (a ∷ b ∷ c ∷ d ∷ e ∷ f ∷ []) zip Sc = zip.1.1.1.0
-shown_at P (a ∷ b ∷ c ∷ d ∷ e ∷ f ∷ []) zip St = zip.1.1.1.1.0
-shown_at P (a ∷ b ∷ c ∷ d ∷ e ∷ f ∷ []) zip Dereserved = zip.1.1.1.1.1.0
-
--- ---- the people of a step
-
-left_of : (taken people : List Person) → IsSublist (without people taken) people
-left_of taken people = filter-sublist _ people
-
--- the people of a step are some of the applicants, in their order
-some_of : (kind : StepKind) (list : ListId) (applicants : List Person) (named : Admissions) → IsSublist (people_of list applicants named kind) applicants
-some_of Open list applicants named = filter-sublist (is_common list) applicants
-some_of Ews list applicants named = sublist_again _ _ applicants (filter-sublist (is_of EwsMember) (without applicants named.open_step)) (left_of named.open_step applicants)
-some_of Obc list applicants named = sublist_again _ _ applicants (filter-sublist (is_of ObcMember) (without applicants named.open_step)) (left_of named.open_step applicants)
-some_of Sc list applicants named = sublist_again _ _ applicants (filter-sublist (is_of ScMember) (without applicants named.open_step)) (left_of named.open_step applicants)
-some_of St list applicants named = sublist_again _ _ applicants (filter-sublist (is_of StMember) (without applicants named.open_step)) (left_of named.open_step applicants)
-some_of Dereserved list applicants named =
-    let a = left_of named.open_step applicants in
-    let b = sublist_again _ _ applicants (left_of named.ews (without applicants named.open_step)) a in
-    let c = sublist_again _ _ applicants (left_of named.obc (without (without applicants named.open_step) named.ews)) b in
-    let d = sublist_again _ _ applicants (left_of named.sc (without (without (without applicants named.open_step) named.ews) named.obc)) c in
-    let e = sublist_again _ _ applicants (left_of named.st (without (without (without (without applicants named.open_step) named.ews) named.obc) named.sc)) d in
-    sublist_again _ _ applicants (filter-sublist (is_common list) _) e
+shown_at : (P : StepKind → StepList → Type 0) (kinds : List StepKind) (lists : List StepList) → AllZip P kinds lists → (j : ℕ) (kind : StepKind) → slice_get kinds j ≡ Some kind
+    → P kind (slice_index_or lists j no_list)
+shown_at P [] lists zip j kind at = absurd (cc)
+shown_at P (first ∷ kinds) [] zip j kind at = absurd zip
+shown_at P (first ∷ kinds) (list ∷ lists) zip zero kind at = subst (λ k. P k list) (let same : first ≡ kind = cc in same) zip.0
+shown_at P (first ∷ kinds) (list ∷ lists) zip (suc j) kind at = shown_at P kinds lists zip.1 j kind at
 
 -- ---- a step
 
-shared_seats : (b : Bool) (obc ews obc_seats ews_seats : ℕ) → obc ≤ obc_seats → ews ≤ ews_seats
-    → ((obc_seats - obc) + (if b then ews_seats - ews else 0)) + (obc + (if b then ews else 0)) ≡ obc_seats + (if b then ews_seats else 0)
-shared_seats true obc ews obc_seats ews_seats few_obc few_ews = omega (arith, few_obc, few_ews)
-shared_seats false obc ews obc_seats ews_seats few_obc few_ews = omega (arith, few_obc)
+-- the seats that categories left empty and those that they filled are all their seats
+shared_seats : (version : ℕ) (seats held : StepKind → ℕ) → ((row : CategoryStep) → IsAmong row category_steps → held row.step ≤ seats row.step) → left_unfilled version seats held + shared version held ≡ shared version seats
+shared_seats version seats held few =
+    let left : CategoryStep → ℕ = λ row. if gives_up row version then seats row.step - held row.step else 0 in
+    let filled : CategoryStep → ℕ = λ row. if gives_up row version then held row.step else 0 in
+    let all : CategoryStep → ℕ = λ row. if gives_up row version then seats row.step else 0 in
+    let same = rows_same (λ row. left row + filled row) all category_steps (λ row there. by (gives_up row version) (seats row.step) (held row.step) (few row there)) in
+    omega (arith, same, rows_plus left filled category_steps, sum-map left category_steps, sum-map filled category_steps, sum-map all category_steps)
+  where
+    by : (b : Bool) (s h : ℕ) → h ≤ s → (if b then s - h else 0) + (if b then h else 0) ≡ (if b then s else 0)
+    by true s h few = omega (arith, few)
+    by false s h few = refl
 
 module _ (size : ChoiceSize) (ranks : InMeritRanks) (axioms : AxiomsAreTheRule) (version : ℕ) (seats : ProgrammeSeats) (people : List Person) (programme : Programme) (ok : AreProgrammeSeats seats)
     (may : AreApplicants seats.list people) (shows : ShowsFrom version seats people programme) where
@@ -94,38 +78,26 @@ module _ (size : ChoiceSize) (ranks : InMeritRanks) (axioms : AxiomsAreTheRule) 
   meets = (axioms version seats people admissions ok may).0 shows.1
 
   pub its : (kind : StepKind) → ShowsStep version seats applicants admissions kind (list_of_step programme kind)
-  its kind = shown_at (ShowsStep version seats applicants admissions) programme.steps shows.2 kind
+  its kind = shown_at (ShowsStep version seats applicants admissions) all_steps programme.steps shows.2 (step_number kind) kind (kind_at kind)
 
   -- the lists name the admissions
   named : named_by programme ≡ admissions
-  named = λ i. record {
-    open_step = (its Open).persons i;
-    ews = (its Ews).persons i;
-    obc = (its Obc).persons i;
-    sc = (its Sc).persons i;
-    st = (its St).persons i;
-    dereserved = (its Dereserved).persons i;
-  }
+  named = λ i kind. (its kind).persons i
 
   abbrev people_at : StepKind → List Person
   people_at kind = people_of seats.list applicants admissions kind
 
   ranked : (kind : StepKind) → AreRanked seats.list (people_at kind)
-  ranked kind = ranked_sublist seats.list (people_at kind) applicants (ranks seats.list people may).0 (some_of kind seats.list applicants admissions)
+  ranked kind = ranked_sublist seats.list (people_at kind) applicants (ranks seats.list people may).0 (people_part seats.list applicants admissions kind)
 
   same_people : (kind : StepKind) → people_of seats.list applicants (named_by programme) kind ≡ people_at kind
   same_people kind = ap (λ (a : Admissions). people_of seats.list applicants a kind) named
 
   has_seats : (kind : StepKind) → HasSeats version seats (named_by programme) kind (list_of_step programme kind).seats
-  has_seats Open = (its Open).of_seats
-  has_seats Ews = (its Ews).of_seats
-  has_seats Obc = (its Obc).of_seats
-  has_seats Sc = (its Sc).of_seats
-  has_seats St = (its St).of_seats
   has_seats Dereserved = subst (λ (a : Admissions). HasSeats version seats a Dereserved (list_of_step programme Dereserved).seats) (sym named)
-      (let own : (list_of_step programme Dereserved).seats ≡ unfilled version seats admissions = (its Dereserved).of_seats in
-      subst (λ (n : ℕ). HasSeats version seats admissions Dereserved n) (sym own)
-      (shared_seats (version == 2) (length admissions.obc) (length admissions.ews) (seats_of seats Obc).seats (seats_of seats Ews).seats (meets.within Obc).seats (meets.within Ews).seats))
+      (subst (λ (n : ℕ). HasSeats version seats admissions Dereserved n) (sym (its Dereserved).of_seats)
+      (shared_seats version (λ kind. (seats_of seats kind).seats) (λ kind. length (admissions kind)) (λ row there. subst (λ n. length (admissions row.step) ≤ n) (own_filled version seats admissions row.step (row_facts row there).own) (meets.within row.step).seats)))
+  has_seats kind = (its kind).of_seats
 
   -- as many are admitted as there are seats or people
   right_size : (kind : StepKind) → length (admitted_by admissions kind) ≡ min (list_of_step programme kind).seats (length (people_at kind))
@@ -136,13 +108,9 @@ module _ (size : ChoiceSize) (ranks : InMeritRanks) (axioms : AxiomsAreTheRule) 
       own kind n e h = h ∙ ap (λ (m : ℕ). min m (length (people_at kind))) (sym e)
 
       by : (kind : StepKind) → length (admitted_by admissions kind) ≡ min (list_of_step programme kind).seats (length (people_at kind))
-      by Open = own Open _ (its Open).of_seats (size _ admissions.open_step (record { list = ok.list; people = ranked Open; protections = (ok.steps Open).protections }) choice.open_step)
-      by Ews = own Ews _ (its Ews).of_seats (size _ admissions.ews (record { list = ok.list; people = ranked Ews; protections = (ok.steps Ews).protections }) choice.ews)
-      by Obc = own Obc _ (its Obc).of_seats (size _ admissions.obc (record { list = ok.list; people = ranked Obc; protections = (ok.steps Obc).protections }) choice.obc)
-      by Sc = own Sc _ (its Sc).of_seats (size _ admissions.sc (record { list = ok.list; people = ranked Sc; protections = (ok.steps Sc).protections }) choice.sc)
-      by St = own St _ (its St).of_seats (size _ admissions.st (record { list = ok.list; people = ranked St; protections = (ok.steps St).protections }) choice.st)
       by Dereserved = own Dereserved (unfilled version seats admissions) (its Dereserved).of_seats
           (ap (λ (l : List Person). length l) choice.dereserved ∙ length-take (unfilled version seats admissions) (people_at Dereserved))
+      by kind = own kind _ (its kind).of_seats (size _ (admissions kind) (record { list = ok.list; people = ranked kind; protections = (ok.steps kind).protections }) (choice.own kind refl))
 
   -- a person who is not admitted, in the place of one who is, stays distinct from the others
   distinct_with : (kind : StepKind) (person worse : Person) → IsAmong person (people_at kind) → (IsAmong person (admitted_by admissions kind) → ⊥)
@@ -203,7 +171,7 @@ module _ (size : ChoiceSize) (ranks : InMeritRanks) (axioms : AxiomsAreTheRule) 
 
   -- No list names a person twice.
   pub named_once : AllByRecursion (λ (list : StepList). Pairwise (λ (a b : Person). a.id ≢ b.id) list.admitted) programme.steps
-  named_once = each_list (Open ∷ Ews ∷ Obc ∷ Sc ∷ St ∷ Dereserved ∷ []) programme.steps shows.2
+  named_once = each_list all_steps programme.steps shows.2
     where
       each_list : (kinds : List StepKind) (lists : List StepList) → AllZip (ShowsStep version seats applicants admissions) kinds lists
           → AllByRecursion (λ (list : StepList). Pairwise (λ (a b : Person). a.id ≢ b.id) list.admitted) lists

@@ -1,6 +1,5 @@
 -- `special` writes the same for the same input.
 use Rattle.std.proofs.Common.{◌≡◌, ◌⊎◌, inl, inr, ℕ, List, Option, Some, refl, sym, ◌∙◌, subst}
-use Rattle.office_base.specs.declared.person.CandId.{CandId}
 use Rattle.section_rows.specs.Rows.{Row}
 use Rattle.slot_cert.specs.Laws.{OneCertificate}
 use Rattle.kept_rows.specs.Tables.{AreTold, IsTold, Tables, still}
@@ -8,7 +7,7 @@ use Rattle.kept_rows.specs.declared.rows.AllotRow.{AllotRow}
 use Rattle.kept_rows.specs.declared.rows.Kept.{Kept}
 use Rattle.rank_lists.specs.Register.{Ranks}
 use Rattle.seat_matrix.specs.Matrix.{SeatTable}
-use Rattle.choice_lists.specs.Laws.{DependOnPeopleAndProgrammes, HaveOneReading}
+use Rattle.choice_lists.specs.Laws.{HaveOneReading}
 use Rattle.round_laws.specs.Laws.{Enter, OneRound}
 use Rattle.office_moves.specs.Facts.{IsSound, SeasonFacts}
 use Rattle.office_moves.specs.History.{Reaches}
@@ -31,10 +30,9 @@ use Rattle.season_commands.specs.Resume.{IsUnresumedText}
 use Rattle.special_command.specs.Special.{HaveOneSpecial, IsListsFaultLine, IsSpecialOutput, IsSpecialText}
 use Rattle.same_input_laws.proofs.Written.{left_has, whole}
 use Rattle.same_input_laws.proofs.Replayed.{history_replayed}
-use Rattle.same_input_laws.proofs.Resumed.{AreAlike, AreKept, ReadingsAreOne, no_unresumed, one_unresumed, one_unresumed_status, resumed_alike, same_tables}
-use Rattle.same_input_laws.proofs.Tokens.{kept_so, same_season}
+use Rattle.same_input_laws.proofs.Resumed.{AreKept, ReadingsAreOne, no_unresumed, of_first, one_unresumed, one_unresumed_status, resumed_alike, same_tables}
 use Rattle.same_input_laws.specs.SpecialOutputs.{SpecialsAreOne}
-use Rattle.same_input_laws.proofs.SpecialRounds.{fault_too, made, made_too, one_text}
+use Rattle.same_input_laws.proofs.SpecialRounds.{made, one_text}
 
 -- The laws of the layers below.
 pub record Laws : Type 0 where
@@ -45,7 +43,6 @@ pub record Laws : Type 0 where
   pub known : FinalsAreKnown
   pub certificate : OneCertificate
   pub lists : (ranks : Ranks) (seats : SeatTable) (rows : List Row) → HaveOneReading ranks seats rows
-  pub carry : (rows : List Row) → DependOnPeopleAndProgrammes rows
   pub enter : Enter
   pub round : OneRound
   pub answer : (facts : SeasonFacts) (state : State) (bytes : List ℕ) → HaveOneSpecial facts state bytes
@@ -55,80 +52,55 @@ pub record Laws : Type 0 where
 one_rows : (rows more : List AllotRow) → ◌≡◌ {A = Option (List AllotRow)} (Some rows) (Some more) → rows ≡ more
 one_rows rows more e = cc e
 
-one_output : Laws → (bytes : List ℕ) (facts : SeasonFacts) (holders : List (List ℕ × CandId)) (state : State) (kept : Kept) (output again : List ℕ) → IsSound facts → IsSound (kept_so facts holders)
-    → IsReplayed facts kept state → IsSpecialOutput facts state bytes output → IsSpecialOutput (kept_so facts holders) state bytes again → output ≡ again
-one_output laws bytes facts holders state kept output again sound other_sound replayed (short, (a, is, text)) (short', (b, its, text')) =
+one_output : Laws → (bytes : List ℕ) (facts : SeasonFacts) (state : State) (kept : Kept) (output again : List ℕ) → IsSound facts
+    → IsReplayed facts kept state → IsSpecialOutput facts state bytes output → IsSpecialOutput facts state bytes again → output ≡ again
+one_output laws bytes facts state kept output again sound replayed (short, (a, is, text)) (short', (b, its, text')) =
     let rows = is.0 in
     let table = matrix_at facts state in
     let same = one_rows its.0 rows (sym its.1 ∙ is.1) in
-    let over : IsSpecialOver (kept_so facts holders) table rows bytes b = subst (λ (r : List AllotRow). IsSpecialOver (kept_so facts holders) table r bytes b) same its.2 in
+    let over : IsSpecialOver facts table rows bytes b = subst (λ (r : List AllotRow). IsSpecialOver facts table r bytes b) same its.2 in
     let history = history_replayed facts (laws.grows facts) sound kept state replayed in
     let known = laws.known facts state rows sound (laws.orderly facts history.0 state sound history.1.reached) is.1 in
-    let one = made facts table rows bytes a sound is.2 in
-    let other = made_too laws.carry facts holders table rows bytes b other_sound over in
-    text ∙ (one_text laws.certificate laws.lists laws.enter laws.round facts table rows bytes a b sound known.rising one other ∙ sym text')
+    text ∙ (one_text laws.certificate laws.lists laws.enter laws.round facts table rows bytes a b known.rising (made facts table rows bytes a sound is.2) (made facts table rows bytes b sound over) ∙ sym text')
 
-line_too : Laws → (facts : SeasonFacts) (holders : List (List ℕ × CandId)) (state : State) (bytes line : List ℕ) → IsListsFaultLine (kept_so facts holders) state bytes line
-    → IsListsFaultLine facts state bytes line
-line_too laws facts holders state bytes line (inl long) = inl long
-line_too laws facts holders state bytes line (inr (fault, has, is)) = inr (fault, (has.0, fault_too laws.carry facts holders state bytes fault has.1, has.2), is)
-
-one_line : Laws → (bytes : List ℕ) (facts : SeasonFacts) (holders : List (List ℕ × CandId)) (state : State) (output again : List ℕ)
-    → HasLeft (IsListsFaultLine facts state) (Some bytes) output → HasLeft (IsListsFaultLine (kept_so facts holders) state) (Some bytes) again → output ≡ again
-one_line laws bytes facts holders state output again first second =
-    (laws.answer facts state bytes).one_line output again (left_has (IsListsFaultLine facts state) bytes output first)
-    (line_too laws facts holders state bytes again (left_has (IsListsFaultLine (kept_so facts holders) state) bytes again second))
+one_line : Laws → (bytes : List ℕ) (facts : SeasonFacts) (state : State) (output again : List ℕ)
+    → HasLeft (IsListsFaultLine facts state) (Some bytes) output → HasLeft (IsListsFaultLine facts state) (Some bytes) again → output ≡ again
+one_line laws bytes facts state output again first second =
+    (laws.answer facts state bytes).one_line output again (left_has (IsListsFaultLine facts state) bytes output first) (left_has (IsListsFaultLine facts state) bytes again second)
 
 -- ---- an office resumes
 
-one_special : Laws → (bytes : List ℕ) (facts : SeasonFacts) (holders : List (List ℕ × CandId)) (state : State) (kept : Kept) (status : Status) (output again : List ℕ) → IsAnswered status
-    → IsSound facts → IsSound (kept_so facts holders) → IsReplayed facts kept state → IsSpecialText facts state (Some bytes) status output
-    → IsSpecialText (kept_so facts holders) state (Some bytes) status again → output ≡ again
-one_special laws bytes facts holders state kept status output again answered sound other_sound replayed =
-    by_answer (λ s. IsSpecialText facts state (Some bytes) s output → IsSpecialText (kept_so facts holders) state (Some bytes) s again → output ≡ again)
+one_special : Laws → (bytes : List ℕ) (facts : SeasonFacts) (state : State) (kept : Kept) (status : Status) (output again : List ℕ) → IsAnswered status
+    → IsSound facts → IsReplayed facts kept state → IsSpecialText facts state (Some bytes) status output → IsSpecialText facts state (Some bytes) status again → output ≡ again
+one_special laws bytes facts state kept status output again answered sound replayed =
+    by_answer (λ s. IsSpecialText facts state (Some bytes) s output → IsSpecialText facts state (Some bytes) s again → output ≡ again)
     (λ first second.
-    one_output laws bytes facts holders state kept output again sound other_sound replayed (left_has (IsSpecialOutput facts state) bytes output first)
-    (left_has (IsSpecialOutput (kept_so facts holders) state) bytes again second)) (λ first second. absurd first) (one_line laws bytes facts holders state output again)
+    one_output laws bytes facts state kept output again sound replayed (left_has (IsSpecialOutput facts state) bytes output first)
+    (left_has (IsSpecialOutput facts state) bytes again second)) (λ first second. absurd first) (one_line laws bytes facts state output again)
     (λ first second. absurd first) (λ first second. absurd first) status answered
-
-one_resumed : Laws → (bytes : List ℕ) (facts other : SeasonFacts) (state then : State) (kept : Kept) (status : Status) (output again : List ℕ) → IsAnswered status
-    → AreAlike facts other state then kept → IsSpecialText facts state (Some bytes) status output → IsSpecialText other then (Some bytes) status again → output ≡ again
-one_resumed laws bytes facts other state then kept status output again answered alike first second =
-    let same = sym (same_season facts other alike.seasons) in
-    let by_season = subst (λ (f : SeasonFacts). IsSpecialText f then (Some bytes) status again) same second in
-    let by_state = subst (λ (s : State). IsSpecialText (kept_so facts other.holders) s (Some bytes) status again) (sym alike.states) by_season in
-    one_special laws bytes facts other.holders state kept status output again answered alike.sound (subst IsSound same alike.other_sound) alike.replayed first by_state
 
 -- ---- one status
 
--- lists with a line of a fault have no special round, whatever the order in which the register keeps its tokens
-line_or_round : Laws → (bytes : List ℕ) (facts : SeasonFacts) (holders : List (List ℕ × CandId)) (state : State) (output line : List ℕ)
-    → HasLeft (IsSpecialOutput facts state) (Some bytes) output → HasLeft (IsListsFaultLine (kept_so facts holders) state) (Some bytes) line → ⊥
-line_or_round laws bytes facts holders state output line made faulty =
+-- lists with a line of a fault have no special round
+line_or_round : Laws → (bytes : List ℕ) (facts : SeasonFacts) (state : State) (output line : List ℕ)
+    → HasLeft (IsSpecialOutput facts state) (Some bytes) output → HasLeft (IsListsFaultLine facts state) (Some bytes) line → ⊥
+line_or_round laws bytes facts state output line made faulty =
     let one = laws.answer facts state bytes in
-    one.apart (one.of_input output (left_has (IsSpecialOutput facts state) bytes output made))
-    (one.of_fault line (line_too laws facts holders state bytes line (left_has (IsListsFaultLine (kept_so facts holders) state) bytes line faulty)))
+    one.apart (one.of_input output (left_has (IsSpecialOutput facts state) bytes output made)) (one.of_fault line (left_has (IsListsFaultLine facts state) bytes line faulty))
 
-one_special_status : Laws → (bytes : List ℕ) (facts : SeasonFacts) (holders : List (List ℕ × CandId)) (state : State) (status other : Status) (output again : List ℕ) → IsAnswered status → IsAnswered other
-    → IsSpecialText facts state (Some bytes) status output → IsSpecialText (kept_so facts holders) state (Some bytes) other again → status ≡ other
-one_special_status laws bytes facts holders state status other output again answered answered' =
+one_special_status : Laws → (bytes : List ℕ) (facts : SeasonFacts) (state : State) (status other : Status) (output again : List ℕ) → IsAnswered status → IsAnswered other
+    → IsSpecialText facts state (Some bytes) status output → IsSpecialText facts state (Some bytes) other again → status ≡ other
+one_special_status laws bytes facts state status other output again answered answered' =
     by_answer (λ s. Same s other)
-    (by_answer (Same Done) (λ first second. refl) (λ first second. absurd second) (λ first second. absurd (line_or_round laws bytes facts holders state output again first second))
+    (by_answer (Same Done) (λ first second. refl) (λ first second. absurd second) (λ first second. absurd (line_or_round laws bytes facts state output again first second))
     (λ first second. absurd second) (λ first second. absurd second) other answered')
     (λ first second. absurd first)
-    (by_answer (Same BadInput) (λ first second. absurd (line_or_round laws bytes (kept_so facts holders) facts.holders state again output second first)) (λ first second. absurd second)
+    (by_answer (Same BadInput) (λ first second. absurd (line_or_round laws bytes facts state again output second first)) (λ first second. absurd second)
     (λ first second. refl) (λ first second. absurd second) (λ first second. absurd second) other answered')
     (λ first second. absurd first) (λ first second. absurd first) status answered
   where
     Same : Status → Status → Type 0
-    Same s t = IsSpecialText facts state (Some bytes) s output → IsSpecialText (kept_so facts holders) state (Some bytes) t again → s ≡ t
-
-one_resumed_status : Laws → (bytes : List ℕ) (facts other : SeasonFacts) (state then : State) (kept : Kept) (status end : Status) (output again : List ℕ) → IsAnswered status → IsAnswered end
-    → AreAlike facts other state then kept → IsSpecialText facts state (Some bytes) status output → IsSpecialText other then (Some bytes) end again → status ≡ end
-one_resumed_status laws bytes facts other state then kept status end output again answered answered' alike first second =
-    let by_season = subst (λ (f : SeasonFacts). IsSpecialText f then (Some bytes) end again) (sym (same_season facts other alike.seasons)) second in
-    let by_state = subst (λ (s : State). IsSpecialText (kept_so facts other.holders) s (Some bytes) end again) (sym alike.states) by_season in
-    one_special_status laws bytes facts other.holders state status end output again answered answered' first by_state
+    Same s t = IsSpecialText facts state (Some bytes) s output → IsSpecialText facts state (Some bytes) t again → s ≡ t
 
 -- ---- the command
 
@@ -162,8 +134,8 @@ specials_are_one laws bytes output again before after later status other answere
     by_status (inr a) (inl b) = absurd (none a.0 a.1 other again answered' a.2 b.0)
     by_status (inr a) (inr b) =
         let alike = resumed_alike laws.kept tables told a.0 b.0 a.1 b.1 a.2 b.2 in
-        one_resumed_status laws bytes a.0 b.0 a.1 b.1 alike.0 status other output again answered answered' alike.1 (special_of a.0 a.1 status output answered a.3)
-        (special_of b.0 b.1 other again answered' b.3)
+        let its = of_first a.0 b.0 a.1 b.1 alike.0 alike.1 (λ (facts : SeasonFacts) (state : State). IsSpecialText facts state (Some bytes) other again) (special_of b.0 b.1 other again answered' b.3) in
+        one_special_status laws bytes a.0 a.1 status other output again answered answered' (special_of a.0 a.1 status output answered a.3) its
 
     by : EndsOver tables after status output → EndsOver tables later status again → output ≡ again
     by (inl a) (inl b) = one_unresumed laws.readings laws.kept tables told status output again answered (text_of status output answered a.0) (text_of status again answered b.0)
@@ -171,4 +143,5 @@ specials_are_one laws bytes output again before after later status other answere
     by (inr a) (inl b) = absurd (none a.0 a.1 status again answered a.2 b.0)
     by (inr a) (inr b) =
         let alike = resumed_alike laws.kept tables told a.0 b.0 a.1 b.1 a.2 b.2 in
-        one_resumed laws bytes a.0 b.0 a.1 b.1 alike.0 status output again answered alike.1 (special_of a.0 a.1 status output answered a.3) (special_of b.0 b.1 status again answered b.3)
+        let its = of_first a.0 b.0 a.1 b.1 alike.0 alike.1 (λ (facts : SeasonFacts) (state : State). IsSpecialText facts state (Some bytes) status again) (special_of b.0 b.1 status again answered b.3) in
+        one_special laws bytes a.0 a.1 alike.0 status output again answered alike.1.sound alike.1.replayed (special_of a.0 a.1 status output answered a.3) its

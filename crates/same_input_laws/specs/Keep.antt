@@ -1,5 +1,6 @@
 -- Offices with one history keep the same records.
 use Rattle.std.specs.Prelude.{◌≡◌, ℕ, List}
+use Rattle.rank_lists.specs.Register.{find_holder}
 use Rattle.kept_rows.specs.Tables.{Tables, Untold, NoSeason, Records}
 use Rattle.kept_rows.specs.declared.rows.Kept.{Kept}
 use Rattle.office_moves.specs.Facts.{IsSound, SeasonFacts}
@@ -7,7 +8,17 @@ use Rattle.office_moves.specs.History.{IsHistory}
 use Rattle.office_moves.specs.Stands.{Stand, first_allot, raises_in}
 use Rattle.office_moves.specs.State.{State, in_window}
 use Rattle.office_moves.specs.declared.moves.Entry.{Entry}
-use Rattle.one_output.specs.Laws.{SayTheSame}
+
+-- Two seasons say the same. Only the order in which a register keeps its tokens may differ; each token has the same holder.
+pub record SayTheSame (facts other : SeasonFacts) : Type 0 where
+  pub version : facts.version ≡ other.version
+  pub rounds : facts.rounds ≡ other.rounds
+  pub clerk : facts.clerk ≡ other.clerk
+  pub people : facts.people ≡ other.people
+  pub holders : (token : List ℕ) → find_holder token facts.holders ≡ find_holder token other.holders
+  pub matrix : facts.matrix ≡ other.matrix
+  pub lists : facts.lists ≡ other.lists
+  pub text : facts.text ≡ other.text
 
 -- Records say the same: they have the same text and as many cuts, in each window the same answers and the same raises, in
 -- their order, and in each round the same seat of each candidate.

@@ -64,7 +64,6 @@ pub fn specials_are_one()
     special_round::laws::finals_are_known();
     slot_cert::laws::one_certificate();
     choice_lists::laws::one_reading();
-    choice_lists::laws::same_reading();
     round_laws::laws::enter();
     round_laws::laws::one_round();
     special_command::laws::one_special_answer();

@@ -1,28 +1,29 @@
 -- What is published of a state in which all is in order is read back.
-use Rattle.std.proofs.Common.{◌≡◌, ◌≢◌, ◌≤◌, ◌<◌, ◌+◌, ◌-◌, ◌++◌, ◌^◌, ◌==◌, inl, inr, ℕ, suc, Bool, true, false, List, [], ◌∷◌, Option, Some, None, length, map, arith, refl, sym, ap, ◌∙◌, subst, if◌then◌else◌}
-use Rattle.std.specs.Prelude.{slice_get}
-use Rattle.std.specs.List.{AllByRecursion, AllZip, filter}
+use Rattle.std.proofs.Common.{◌≡◌, ◌≢◌, ◌≤◌, ◌<◌, ◌+◌, ◌-◌, ◌*◌, ◌++◌, ◌^◌, ◌==◌, inl, inr, ℕ, suc, Bool, true, false, List, [], ◌∷◌, Option, Some, None, length, map, arith, refl, sym, ap, ◌∙◌, subst, if◌then◌else◌}
+use Rattle.std.specs.Prelude.{slice_get, slice_index_or}
+use Rattle.std.specs.List.{AllByRecursion, AllZip}
 use Rattle.std.specs.Option.{option_and_then}
 use Rattle.std.proofs.lemmas.Bool.{eq-eqb}
+use Rattle.std.proofs.lemmas.List.Sums.{sum-map, sum_by-le}
 use Rattle.std.proofs.lemmas.Option.{slice_get_within}
 use Rattle.office_base.proofs.Lists.{all-get, all_from, there_is}
 use Rattle.office_base.proofs.People.{at_person-get}
+use Rattle.office_base.specs.CategorySteps.{category_steps, gives_up, own_steps}
 use Rattle.office_base.specs.Certificate.{IsCanonical}
+use Rattle.office_base.specs.Limits.{most_step_seats}
 use Rattle.office_base.specs.Lists.{IsAmong, IsSublist, Pairwise}
 use Rattle.office_base.specs.Merit.{in_merit}
-use Rattle.office_base.specs.Person.{is_common}
 use Rattle.office_base.specs.Placement.{placed_on}
 use Rattle.office_base.specs.declared.asks.Seat.{Seat}
-use Rattle.office_base.specs.declared.person.Category.TheVariants.{Ews, Obc, Sc, St}
+use Rattle.office_base.specs.declared.category_steps.CategoryStep.{CategoryStep}
 use Rattle.office_base.specs.declared.person.ListId.{ListId}
 use Rattle.office_base.specs.declared.person.Person.{Person}
 use Rattle.office_base.specs.declared.person.ProgId.{ProgId}
 use Rattle.office_base.specs.declared.step.Pair.{Pair}
 use Rattle.office_base.specs.declared.step.StepKind.{StepKind}
-use Rattle.office_base.specs.declared.step.StepKind.TheVariants.{Open, Ews as EwsStep, Obc as ObcStep, Sc as ScStep, St as StStep, Dereserved}
+use Rattle.office_base.specs.declared.step.StepKind.TheVariants.{Dereserved}
 use Rattle.kept_rows.specs.declared.rows.AllotRow.{AllotRow}
 use Rattle.merit_choice.specs.InMerit.{InMeritRanks}
-use Rattle.placements.proofs.Filters.{filter-sublist}
 use Rattle.placements.proofs.Sublists.{length-sublist}
 use Rattle.allocations.specs.Fair.{IsMarket}
 use Rattle.allocations.specs.Market.{Seeker, applicants, applies, place_of, those}
@@ -36,10 +37,9 @@ use Rattle.seat_matrix.specs.Seats.{AreProgrammeSeats, no_protections, seats_of}
 use Rattle.seat_matrix.specs.declared.seats.ProgrammeSeats.{ProgrammeSeats}
 use Rattle.seat_matrix.proofs.Unprotected.{no_position}
 use Rattle.programme_lists.specs.Listing.{ShowsStep, seats_filled}
-use Rattle.programme_lists.specs.Programme.{Admissions, admitted_by, is_of, people_of, without}
+use Rattle.programme_lists.specs.Programme.{Admissions, admitted_by, people_of}
 use Rattle.programme_lists.specs.declared.programme.Programme.{Programme}
 use Rattle.programme_lists.specs.declared.programme.StepList.{StepList}
-use Rattle.programme_lists.proofs.Taken.{length-without}
 use Rattle.open_then_category.specs.Laws.{AdmittedOnce, SlotsAreTraits}
 use Rattle.published_texts.specs.Texts.{AreSeatsOf, IsSeatOf, list_text, round_text}
 use Rattle.list_texts.specs.Laws.{IsWritten, ListsAreRead, ListsAreTold}
@@ -50,7 +50,8 @@ use Rattle.rounds.specs.Rule.{MayApplyIn, ProgrammesChooseWell, rule_of, seekers
 use Rattle.rounds.specs.declared.round.Round.{Round}
 use Rattle.rounds.proofs.Entrants.{entered, length_seekers, market}
 use Rattle.round_laws.proofs.People.{found_at}
-use Rattle.round_laws.proofs.OneRound.{step_distinct}
+use Rattle.programme_lists.proofs.Parts.{people_part}
+use Rattle.round_laws.proofs.Everybody.{step_distinct}
 use Rattle.office_moves.specs.Facts.{IsSound, SeasonFacts, lists_in_order}
 use Rattle.office_moves.specs.State.{State, seat_in, seat_of}
 use Rattle.office_moves.specs.Promise.{IsJust, kept_to_the_end, standing_then}
@@ -128,43 +129,22 @@ few_those f [] xs = omega arith
 few_those f (s ∷ seekers) [] = omega arith
 few_those f (s ∷ seekers) (x ∷ xs) = fewer_if (f s x) s.person (those f seekers xs) (length seekers) (few_those f seekers xs)
 
-few_filter : (p : Person → Bool) (people : List Person) → length (filter p people) ≤ length people
-few_filter p people = length-sublist (filter p people) people (filter-sublist p people)
-
 -- no more people stand for a step than there are applicants
 few_people : (list : ListId) (people : List Person) (a : Admissions) (kind : StepKind) → length (people_of list people a kind) ≤ length people
-few_people list people a Open = few_filter (is_common list) people
-few_people list people a EwsStep = let one = few_filter (is_of Ews) (without people a.open_step) in let two = length-without people a.open_step in omega (arith, one, two)
-few_people list people a ObcStep = let one = few_filter (is_of Obc) (without people a.open_step) in let two = length-without people a.open_step in omega (arith, one, two)
-few_people list people a ScStep = let one = few_filter (is_of Sc) (without people a.open_step) in let two = length-without people a.open_step in omega (arith, one, two)
-few_people list people a StStep = let one = few_filter (is_of St) (without people a.open_step) in let two = length-without people a.open_step in omega (arith, one, two)
-few_people list people a Dereserved =
-    let l1 = without people a.open_step in
-    let l2 = without l1 a.ews in
-    let l3 = without l2 a.obc in
-    let l4 = without l3 a.sc in
-    let l5 = without l4 a.st in
-    let n1 = length-without people a.open_step in
-    let n2 = length-without l1 a.ews in
-    let n3 = length-without l2 a.obc in
-    let n4 = length-without l3 a.sc in
-    let n5 = length-without l4 a.st in
-    let n6 = few_filter (is_common list) l5 in
-    omega (arith, n1, n2, n3, n4, n5, n6)
+few_people list people a kind = length-sublist (people_of list people a kind) people (people_part list people a kind)
+
+few_if : (b : Bool) (m n : ℕ) → m ≤ most_step_seats → (if b then m - n else 0) ≤ most_step_seats
+few_if true m n most = omega (arith, most)
+few_if false m n most = omega arith
 
 -- the seats that a step fills
-few_seats : (version : ℕ) (seats : ProgrammeSeats) (a : Admissions) (kind : StepKind) → AreProgrammeSeats seats → seats_filled version seats a kind ≤ 8000
-few_seats version seats a Open sound = let most = (sound.steps Open).seats in omega (arith, most)
-few_seats version seats a EwsStep sound = let most = (sound.steps EwsStep).seats in omega (arith, most)
-few_seats version seats a ObcStep sound = let most = (sound.steps ObcStep).seats in omega (arith, most)
-few_seats version seats a ScStep sound = let most = (sound.steps ScStep).seats in omega (arith, most)
-few_seats version seats a StStep sound = let most = (sound.steps StStep).seats in omega (arith, most)
+few_seats : (version : ℕ) (seats : ProgrammeSeats) (a : Admissions) (kind : StepKind) → AreProgrammeSeats seats → seats_filled version seats a kind ≤ length own_steps * most_step_seats
 few_seats version seats a Dereserved sound =
-    two (version == 2) (seats_of seats EwsStep).seats (length a.ews) (seats_of seats ObcStep).seats (length a.obc) (sound.steps EwsStep).seats (sound.steps ObcStep).seats
-  where
-    two : (b : Bool) (m i n j : ℕ) → m ≤ 4000 → n ≤ 4000 → (n - j) + (if b then m - i else 0) ≤ 8000
-    two true m i n j first second = omega (arith, first, second)
-    two false m i n j first second = omega (arith, first, second)
+    let given : CategoryStep → ℕ = λ row. if gives_up row version then (seats_of seats row.step).seats - length (a row.step) else 0 in
+    let few = sum_by-le given most_step_seats category_steps (λ k d less.
+    let row = slice_index_or category_steps k d in few_if (gives_up row version) (seats_of seats row.step).seats (length (a row.step)) (sound.steps row.step).seats) in
+    omega (arith, sum-map given category_steps, few)
+few_seats version seats a kind sound = let most = (sound.steps kind).seats in omega (arith, most)
 
 no_pairs : (people : List Person) (pairs : List Pair) → IsCanonical no_protections people pairs → pairs ≡ []
 no_pairs people [] canonical = refl

@@ -1,10 +1,10 @@
 -- A programme can show its choice from any people who may apply together.
 use Rattle.std.proofs.Common.{ℕ, List, [], ◌∷◌, length, refl}
 use Rattle.std.specs.List.{AllZip}
+use Rattle.office_base.specs.CategorySteps.{all_steps}
 use Rattle.office_base.specs.Merit.{in_merit}
 use Rattle.office_base.specs.declared.person.Person.{Person}
 use Rattle.office_base.specs.declared.step.StepKind.{StepKind}
-use Rattle.office_base.specs.declared.step.StepKind.TheVariants.{Open, Ews, Obc, Sc, St, Dereserved}
 use Rattle.placements.specs.Ranks.{AreDistinct}
 use Rattle.seat_matrix.specs.Seats.{AreProgrammeSeats, seats_of}
 use Rattle.seat_matrix.specs.declared.seats.ProgrammeSeats.{ProgrammeSeats}
@@ -14,7 +14,7 @@ use Rattle.programme_lists.specs.Programme.{Admissions, admitted_by, people_of}
 use Rattle.programme_lists.specs.declared.programme.Programme.{Programme}
 use Rattle.programme_lists.specs.declared.programme.StepList.{StepList}
 use Rattle.open_then_category.specs.Laws.{AdmittedOnce, ProgrammeChoiceExists}
-use Rattle.round_laws.proofs.OneRound.{step_distinct}
+use Rattle.round_laws.proofs.Everybody.{step_distinct}
 use Rattle.season_laws.proofs.Certificates.{certificate}
 
 -- the list of a step
@@ -47,5 +47,5 @@ pub shown : ProgrammeChoiceExists → AdmittedOnce → (version : ℕ) (seats : 
 shown exists once version seats people sound may =
     let choice = exists version seats people sound may in
     let apart = (once version seats people choice.0 sound may choice.1).0 in
-    let lists = steps_shown version seats (in_merit seats.list people) choice.0 (Open ∷ Ews ∷ Obc ∷ Sc ∷ St ∷ Dereserved ∷ []) apart in
+    let lists = steps_shown version seats (in_merit seats.list people) choice.0 all_steps apart in
     (record { steps = lists.0 }, (choice.0, choice.1, lists.1))

@@ -1,5 +1,5 @@
 -- A candidate who has a unit on the list lives in a state that the unit is for.
-use Rattle.std.proofs.Common.{◌≡◌, ℕ, zero, suc, Bool, true, false, not, List, [], ◌∷◌, ◌++◌, Option, Some, None, Result, Ok, Err, map, drop, refl, sym, ap, subst, ◌∙◌, ◌==◌, if◌then◌else◌, arith}
+use Rattle.std.proofs.Common.{◌≡◌, inl, inr, ℕ, zero, suc, Bool, true, false, not, List, [], ◌∷◌, ◌++◌, Option, Some, None, Result, Ok, map, drop, refl, sym, ap, subst, ◌∙◌, ◌==◌, if◌then◌else◌, arith}
 use Rattle.std.specs.Prelude.{◌&&◌, bytes_eq, get_or, position, slice_get}
 use Rattle.std.specs.Option.{option_and_then, option_map}
 use Rattle.std.specs.Fmt.{decimal}
@@ -14,20 +14,22 @@ use Rattle.office_base.specs.Codes.{is_code}
 use Rattle.office_text.specs.Number.{AreInverse, is_number, number_within, value_of}
 use Rattle.section_rows.specs.Rows.{Row, field, rows_of}
 use Rattle.section_rows.specs.Steps.{after, unless}
-use Rattle.section_rows.specs.Table.{entries_after, entries_of, with_entry}
+use Rattle.section_rows.proofs.StageLemmas.{not_both}
 use Rattle.section_rows.proofs.StepsLemmas.{after_ok, needs_ok, unless_ok, within_range}
+use Rattle.section_rows.proofs.TableLemmas.{all-along}
 use Rattle.rank_lists.specs.Register.{Ranks, find_person}
 use Rattle.seat_matrix.specs.Matrix.{SeatTable}
 use Rattle.seat_matrix.specs.declared.entry.Home.{Home}
-use Rattle.choice_lists.specs.Choices.{Entry, choice, choices, is_chosen, is_ranked, list_at, listed, new_candidate, person_of, programme_of, reading}
+use Rattle.choice_lists.specs.Choices.{Entry, Lists, choice, choices, entries_of, header, is_chosen, is_ranked, list_at, list_of, listed, lists_for, new_candidate, person_of, programme_of, reading}
 use Rattle.choice_lists.specs.declared.fault.ChoiceKind.{ChoiceKind}
-use Rattle.choice_lists.specs.declared.fault.ChoiceKind.TheVariants.{UnknownProgramme, RepeatedProgramme, NotRankedThere}
+use Rattle.choice_lists.specs.declared.fault.ChoiceKind.TheVariants.{BadHeader, UnknownProgramme, RepeatedProgramme, NotRankedThere}
 use Rattle.units_command.specs.Homes.{Homes}
 use Rattle.office_base.specs.Lists.{IsAmong}
 use Rattle.office_base.specs.declared.asks.Request.{Request}
 use Rattle.office_base.proofs.Lists.{all_push, all_among}
 use Rattle.rank_lists.proofs.Known.{found_id}
 use Rattle.choice_lists.proofs.ChoicesLemmas.{new_candidate_ok}
+use Rattle.choice_lists.proofs.FoundLemmas.{listed-or-none}
 use Rattle.season_file.specs.declared.content.Content.{Content}
 use Rattle.units_command.specs.Mapping.{mapped_from, mapped_rows}
 use Rattle.units_command.specs.Reads.{AllLiveRight, MappedGives}
@@ -104,15 +106,12 @@ entry-right inverse units states ranks seats entries row entry e right =
     (progs-right units states seats person person.id.0 [] (drop 1 row) progs chosen tt (subst (λ (l : List ℕ). AllByRecursion (IsRight units states l) (drop 1 row)) text right))
 
 -- The entries of right rows are right.
-pub entries-right : AreInverse → (units states : Homes) (ranks : Ranks) (seats : SeatTable) (entries : List Entry) (rows : List Row) → AllByRecursion (RightEntry seats units states) entries → AllByRecursion (AreRight units states) rows
-    → AllByRecursion (RightEntry seats units states) (entries_after (reading ranks seats) entries rows)
-entries-right inverse units states ranks seats entries [] all right = all
-entries-right inverse units states ranks seats entries (row ∷ rows) all right =
-    entries-right inverse units states ranks seats (with_entry entries (reading ranks seats entries row)) rows (by (reading ranks seats entries row) refl) right.1
-  where
-    by : (r : Result Entry ChoiceKind) → reading ranks seats entries row ≡ r → AllByRecursion (RightEntry seats units states) (with_entry entries r)
-    by (Ok entry) found = all_push (RightEntry seats units states) entries entry all (entry-right inverse units states ranks seats entries row entry found right.0)
-    by (Err kind) found = all
+entries-right : AreInverse → (units states : Homes) (ranks : Ranks) (seats : SeatTable) (first : Row) (rows : List Row) (entries : List Entry) → AllByRecursion (AreRight units states) rows → entries_of ranks seats (first ∷ rows) ≡ Ok entries
+    → AllByRecursion (RightEntry seats units states) entries
+entries-right inverse units states ranks seats first rows entries right e =
+    (all-along (reading ranks seats) (λ before rest. AllByRecursion (RightEntry seats units states) before × AllByRecursion (AreRight units states) rest)
+    (λ before row rest entry held found. (all_push (RightEntry seats units states) before entry held.0 (entry-right inverse units states ranks seats before row entry found held.1.0), held.1.1))
+    BadHeader header first rows entries (tt, right) e).0
 
 -- The list of a candidate is right.
 pub list-right : (units states : Homes) (seats : SeatTable) (entries : List Entry) (candidate : ℕ) (progs : List ProgId) → AllByRecursion (RightEntry seats units states) entries → list_at candidate entries ≡ Some progs
@@ -133,21 +132,25 @@ from-listed : (P : ProgId → Type 0) (o : Option (List ProgId)) (prog : ProgId)
 from-listed P None prog all here = absurd here
 from-listed P (Some progs) prog all here = all_among P progs prog (all progs refl) here
 
-mapped-entries : AreInverse → (units states : Homes) (ranks : Ranks) (seats : SeatTable) (rows mapped : List Row) → mapped_rows units states rows ≡ Ok mapped → AllByRecursion (RightEntry seats units states) (entries_of (reading ranks seats) mapped)
-mapped-entries inverse units states ranks seats [] mapped e = let none : [] ≡ mapped = cc in subst (λ (r : List Row). AllByRecursion (RightEntry seats units states) (entries_of (reading ranks seats) r)) none tt
-mapped-entries inverse units states ranks seats (header ∷ rows) mapped e =
-    let (more, rest, made) = after_ok (mapped_from units states 2 rows) (λ more. Ok (header ∷ more)) mapped e in
-    let same : header ∷ more ≡ mapped = cc in
-    subst (λ (r : List Row). AllByRecursion (RightEntry seats units states) (entries_of (reading ranks seats) r)) same
-    (entries-right inverse units states ranks seats [] more tt (from-right units states 2 rows more rest))
+mapped-entries : AreInverse → (units states : Homes) (ranks : Ranks) (seats : SeatTable) (rows mapped : List Row) (entries : List Entry) → mapped_rows units states rows ≡ Ok mapped → entries_of ranks seats mapped ≡ Ok entries
+    → AllByRecursion (RightEntry seats units states) entries
+mapped-entries inverse units states ranks seats [] mapped entries e gave =
+    let none : [] ≡ mapped = cc in absurd (not_both (entries_of ranks seats []) entries (1, BadHeader) (ap (entries_of ranks seats) none ∙ gave) refl)
+mapped-entries inverse units states ranks seats (first ∷ rows) mapped entries e gave =
+    let (more, rest, made) = after_ok (mapped_from units states 2 rows) (λ more. Ok (first ∷ more)) mapped e in
+    let same : first ∷ more ≡ mapped = cc in
+    entries-right inverse units states ranks seats first more entries (from-right units states 2 rows more rest) (ap (entries_of ranks seats) same ∙ gave)
 
 -- A candidate who has a unit on the list lives in a state that the unit is for.
 pub live_right : AreInverse → (units states : Homes) (bundle : List ℕ) (content : Content) (script : List Request) → MappedGives units states bundle content script → AllLiveRight units states content
 live_right inverse units states bundle content script h candidate prog code here there =
     let m = h.1.0 in
     let read = h.1.1.choices in
-    let entries = mapped-entries inverse units states content.register content.matrix (rows_of m.parts.choices) m.rows m.mapped in
-    let own = subst (λ (r : List Row). AllByRecursion (RightEntry content.matrix units states) (entries_of (reading content.register content.matrix) r)) (sym m.spelled) entries in
-    let right = from-listed (HasRight content.matrix units states candidate) (list_at candidate (entries_of (reading content.register content.matrix) (rows_of m.body))) prog
-    (λ progs found. list-right units states content.matrix (entries_of (reading content.register content.matrix) (rows_of m.body)) candidate progs own found) (subst (IsAmong prog) (read.1 candidate) here) code there in
+    let own = mapped-entries inverse units states content.register content.matrix (rows_of m.parts.choices) m.rows read.0 m.mapped (ap (entries_of content.register content.matrix) (sym m.spelled) ∙ read.1) in
+    let among : IsAmong prog (list_of (lists_for content.register read.0) candidate) = subst (λ (lists : Lists). IsAmong prog (list_of lists candidate)) read.2 here in
+    let mine : IsAmong prog (listed (list_at candidate read.0)) = elim (listed-or-none content.register read.0 candidate) [
+      | inl e ↦ subst (IsAmong prog) e among
+      | inr e ↦ absurd (subst (IsAmong prog) e among)
+    ] in
+    let right = from-listed (HasRight content.matrix units states candidate) (list_at candidate read.0) prog (λ progs found. list-right units states content.matrix read.0 candidate progs own found) mine code there in
     record { home = right.home; other = right.other }

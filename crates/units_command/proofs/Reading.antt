@@ -19,7 +19,7 @@ use Rattle.season_file.specs.Season.{BundleGives, IsSectionFault, IsText, Sectio
 use Rattle.season_file.specs.declared.content.Content.{Content}
 use Rattle.season_file.specs.declared.fault.SeasonFault.{SeasonFault}
 use Rattle.season_file.specs.declared.fault.SeasonFault.TheVariants.{ReadFault, TooLong, BadFirstLine, Section, BadSeason, Register, Matrix, Choices, NotUtf8, BadRequest, OutOfMemory}
-use Rattle.season_file.proofs.LawsLemmas.{one_ok, not_both}
+use Rattle.section_rows.proofs.StageLemmas.{not_both, one_ok}
 use Rattle.units_command.specs.Quoted.{rows_text, spaced_row}
 use Rattle.units_command.proofs.ReadBack.{read-are, rows-back, spaced-are}
 use Rattle.units_command.specs.Homes.{Homes}

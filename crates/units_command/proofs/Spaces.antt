@@ -1,7 +1,7 @@
 -- Spaces for LFs change nothing of what rows of choices give.
-use Rattle.std.proofs.Common.{◌≡◌, ◌+◌, ◌-◌, ℕ, zero, suc, Bool, true, false, not, List, [], ◌∷◌, ◌++◌, Option, Some, None, Result, Ok, Err, length, map, take, drop, refl, sym, ap, ◌∙◌, ◌==◌, if◌then◌else◌, arith}
-use Rattle.std.specs.Prelude.{◌&&◌, bytes_eq, nat_eq, nat_le, nat_lt, slice_get, is_some, position}
-use Rattle.std.specs.Option.{option_and_then, option_map}
+use Rattle.std.proofs.Common.{◌≡◌, ◌+◌, ◌-◌, ℕ, zero, suc, Bool, true, false, not, List, [], ◌∷◌, ◌++◌, Option, Some, None, Result, Ok, Err, length, map, drop, refl, sym, ap, ◌∙◌, ◌==◌, if◌then◌else◌}
+use Rattle.std.specs.Prelude.{◌&&◌, bytes_eq, nat_eq, nat_le, nat_lt, is_some, position}
+use Rattle.std.specs.Option.{option_and_then}
 use Rattle.std.specs.Char.{is_ascii_digit}
 use Rattle.std.specs.List.{list_all}
 use Rattle.std.proofs.lemmas.Bool.{and_parts, eqb-true}
@@ -10,16 +10,15 @@ use Rattle.office_base.specs.Codes.{is_code, is_code_byte}
 use Rattle.office_base.specs.Limits.{last_id, longest_code, most_choices, most_row_choices, shortest_code}
 use Rattle.office_base.specs.declared.person.Person.{Person}
 use Rattle.office_base.specs.declared.person.ProgId.{ProgId}
-use Rattle.office_text.specs.FirstFault.{fault_at}
 use Rattle.office_text.specs.Names.{code_of}
 use Rattle.office_text.specs.Number.{is_number, number_within, value_of}
 use Rattle.section_rows.specs.Rows.{Row, field, same_fields}
 use Rattle.section_rows.specs.Steps.{after, needs, unless}
-use Rattle.section_rows.specs.Table.{entries_after, entries_of, fault_of, with_entry}
+use Rattle.section_rows.specs.Table.{Given, entries_from, then_read}
 use Rattle.section_rows.specs.declared.fault.TableFault.TheVariants.{Bad}
 use Rattle.rank_lists.specs.Register.{Ranks, find_person}
 use Rattle.seat_matrix.specs.Matrix.{SeatTable}
-use Rattle.choice_lists.specs.Choices.{Entry, IsFault, IsRead, Lists, all_choices, choice, choices, header, is_chosen, is_ranked, judge, list_at, listed, new_candidate, person_of, programme_of, reading}
+use Rattle.choice_lists.specs.Choices.{Entry, IsFault, IsRead, Lists, all_choices, choice, choices, entries_of, header, is_chosen, is_ranked, list_at, new_candidate, person_of, programme_of, reading}
 use Rattle.choice_lists.specs.declared.fault.ChoiceKind.{ChoiceKind}
 use Rattle.choice_lists.specs.declared.fault.ChoiceKind.TheVariants.{BadHeader, UnknownCandidate, RepeatedCandidate, UnknownProgramme, RepeatedProgramme, NotRankedThere, TooLong, TooMany}
 use Rattle.units_command.specs.Quoted.{no_lf, spaced, spaced_row}
@@ -148,15 +147,16 @@ reading-spaced ranks seats entries row = ap (λ (r : Result Person ChoiceKind). 
         (ap (choices seats person []) (drop-spaced row) ∙ choices-spaced seats person [] (drop 1 row))
     by (Err kind) = refl
 
-entries-spaced : (ranks : Ranks) (seats : SeatTable) (entries : List Entry) (rows : List Row) → entries_after (reading ranks seats) entries (map spaced_row rows) ≡ entries_after (reading ranks seats) entries rows
-entries-spaced ranks seats entries [] = refl
-entries-spaced ranks seats entries (row ∷ rows) =
-    ap (λ (r : Result Entry ChoiceKind). entries_after (reading ranks seats) (with_entry entries r) (map spaced_row rows)) (reading-spaced ranks seats entries row)
-    ∙ entries-spaced ranks seats (with_entry entries (reading ranks seats entries row)) rows
-
-all_entries-spaced : (ranks : Ranks) (seats : SeatTable) (rows : List Row) → entries_of (reading ranks seats) (map spaced_row rows) ≡ entries_of (reading ranks seats) rows
-all_entries-spaced ranks seats [] = refl
-all_entries-spaced ranks seats (row ∷ rows) = entries-spaced ranks seats [] rows
+entries-spaced : (ranks : Ranks) (seats : SeatTable) (number : ℕ) (before : List Entry) (rows : List Row) → entries_from (reading ranks seats) number before (map spaced_row rows) ≡ entries_from (reading ranks seats) number before rows
+entries-spaced ranks seats number before [] = refl
+entries-spaced ranks seats number before (row ∷ rows) =
+    ap (λ (r : Result Entry ChoiceKind). then_read number r (λ entry. entries_from (reading ranks seats) (number + 1) (before ++ entry ∷ []) (map spaced_row rows))) (reading-spaced ranks seats before row)
+    ∙ by (λ entry. entries-spaced ranks seats (number + 1) (before ++ entry ∷ []) rows) (reading ranks seats before row)
+  where
+    by : ((entry : Entry) → entries_from (reading ranks seats) (number + 1) (before ++ entry ∷ []) (map spaced_row rows) ≡ entries_from (reading ranks seats) (number + 1) (before ++ entry ∷ []) rows) → (r : Result Entry ChoiceKind)
+        → then_read number r (λ entry. entries_from (reading ranks seats) (number + 1) (before ++ entry ∷ []) (map spaced_row rows)) ≡ then_read number r (λ entry. entries_from (reading ranks seats) (number + 1) (before ++ entry ∷ []) rows)
+    by next (Ok entry) = next entry
+    by next (Err kind) = refl
 
 -- ---- the header
 
@@ -188,44 +188,15 @@ names-spaced (f ∷ row) (name ∷ names) h =
 
 -- ---- the table
 
-judge-spaced : (ranks : Ranks) (seats : SeatTable) (done : List Row) (o : Option Row) → judge ranks seats (map spaced_row done) (option_map spaced_row o) ≡ judge ranks seats done o
-judge-spaced ranks seats [] None = refl
-judge-spaced ranks seats [] (Some row) = ap (λ (b : Bool). if b then None else Some BadHeader) (names-spaced row header refl)
-judge-spaced ranks seats (first ∷ done) None = refl
-judge-spaced ranks seats (first ∷ done) (Some row) =
-    ap (λ (es : List Entry). fault_of (reading ranks seats es (spaced_row row))) (entries-spaced ranks seats [] done) ∙ ap fault_of (reading-spaced ranks seats (entries_after (reading ranks seats) [] done) row)
-
-take-spaced : (m : ℕ) (rows : List Row) → take m (map spaced_row rows) ≡ map spaced_row (take m rows)
-take-spaced zero rows = refl
-take-spaced (suc m) [] = refl
-take-spaced (suc m) (row ∷ rows) = ap (λ (l : List Row). spaced_row row ∷ l) (take-spaced m rows)
-
-get-spaced : (rows : List Row) (m : ℕ) → slice_get (map spaced_row rows) m ≡ option_map spaced_row (slice_get rows m)
-get-spaced [] zero = refl
-get-spaced [] (suc m) = refl
-get-spaced (row ∷ rows) zero = refl
-get-spaced (row ∷ rows) (suc m) = get-spaced rows m
-
-fault-spaced : (ranks : Ranks) (seats : SeatTable) (rows : List Row) (m : ℕ) → fault_at (judge ranks seats) (map spaced_row rows) m ≡ fault_at (judge ranks seats) rows m
-fault-spaced ranks seats rows m =
-    ap (λ (l : List Row). judge ranks seats l (slice_get (map spaced_row rows) m)) (take-spaced m rows) ∙ ap (judge ranks seats (map spaced_row (take m rows))) (get-spaced rows m)
-    ∙ judge-spaced ranks seats (take m rows) (slice_get rows m)
+table-spaced : (ranks : Ranks) (seats : SeatTable) (rows : List Row) → entries_of ranks seats (map spaced_row rows) ≡ entries_of ranks seats rows
+table-spaced ranks seats [] = refl
+table-spaced ranks seats (row ∷ rows) =
+    ap (λ (b : Bool). if b then entries_from (reading ranks seats) 2 [] (map spaced_row rows) else Err (1, BadHeader)) (names-spaced row header refl)
+    ∙ ap (λ (t : Given Entry ChoiceKind). if same_fields row header then t else Err (1, BadHeader)) (entries-spaced ranks seats 2 [] rows)
 
 -- Rows with spaces give the lists that the rows give, and have their first fault.
 pub read-spaced : (ranks : Ranks) (seats : SeatTable) (rows : List Row) (lists : Lists) → IsRead ranks seats (map spaced_row rows) lists → IsRead ranks seats rows lists
-read-spaced ranks seats rows lists h = (
-  λ m within. sym (fault-spaced ranks seats rows m) ∙ h.0 m (omega (arith, within, length-map rows spaced_row)),
-  λ candidate. h.1 candidate ∙ ap (λ (es : List Entry). listed (list_at candidate es)) (all_entries-spaced ranks seats rows),
-)
+read-spaced ranks seats rows lists h = (h.0, sym (table-spaced ranks seats rows) ∙ h.1, h.2)
 
 pub first-spaced : (ranks : Ranks) (seats : SeatTable) (rows : List Row) (row : ℕ) (kind : ChoiceKind) → IsFault ranks seats (map spaced_row rows) (Bad row kind) → IsFault ranks seats rows (Bad row kind)
-first-spaced ranks seats rows row kind h =
-    let (n, e, first) = h in (
-      n,
-      e,
-      record {
-        here = sym (fault-spaced ranks seats rows n) ∙ first.here;
-        within = omega (arith, first.within, length-map rows spaced_row);
-        before = λ m less. sym (fault-spaced ranks seats rows m) ∙ first.before m less;
-      },
-    )
+first-spaced ranks seats rows row kind h = sym (table-spaced ranks seats rows) ∙ h

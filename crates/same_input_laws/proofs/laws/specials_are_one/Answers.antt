@@ -10,7 +10,6 @@ returns c = ends.specials_are_one (record {
   known = c.finals_are_known.ensures;
   certificate = c.one_certificate.ensures;
   lists = c.one_reading-2.ensures;
-  carry = c.same_reading.ensures;
   enter = c.enter.ensures;
   round = c.one_round.ensures;
   answer = c.one_special_answer.ensures;
