@@ -1,3 +1,4 @@
 mod Known
 mod Opened
 mod Found
+pub mod HiddenLemmas

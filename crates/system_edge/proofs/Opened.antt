@@ -15,6 +15,7 @@ use Rattle.stored_tables.specs.Layout.{no_schema, first_four, stored}
 use Rattle.keeper_sqlite.specs.Commits.{CommitsOnce}
 use Rattle.keeper_sqlite.specs.Stored.{Stored}
 use Rattle.system_edge.specs.Heads.{HasSoundHead}
+use Rattle.system_edge.specs.Hidden.{HidesNothing}
 use Rattle.system_edge.specs.Tables.{HasTables, HoldsFiles, IsOpenedOver, MakesTables}
 
 -- no lie was taken before, if none was taken up to now
@@ -39,13 +40,15 @@ module _ {D : Type 0} {g : disk.Ghosts D} where
   -- what was opened over files that held this shows it
   pub opened_over : (files : Files D) (image : Image) (connection : Held (FileStore D g)) → image_of g files ≡ image
       → (HasCleanDisk (file_state connection) → IsOpened connection × Finds files connection)
-      → (HasCleanDisk (file_state connection) → HasSoundHead (g.seen files.log)) → IsOpenedOver image connection
-  opened_over files image connection same opened sound clean =
+      → (HasCleanDisk (file_state connection) → HasSoundHead (g.seen files.log))
+      → (HasCleanDisk (file_state connection) → HidesNothing (g.seen files.log)) → IsOpenedOver image connection
+  opened_over files image connection same opened sound whole clean =
       let (is_open, found) = opened clean in
       record {
         opened = is_open;
         found = subst (λ (i : Image). FindsIn i (file_state connection)) same (record { holds = found.holds; reads = found.reads });
         sound = subst (λ (i : Image). HasSoundHead i.log) same (sound clean);
+        whole = subst (λ (i : Image). HidesNothing i.log) same (whole clean);
       }
 
   -- a keeper over a connection that shows what two files held

@@ -3,4 +3,5 @@ pub mod Counts
 pub mod Failing
 pub mod Tables
 pub mod Heads
+pub mod Hidden
 pub mod Stores

@@ -17,7 +17,7 @@ pub type FileKeeper<S> = SqliteKeeper<FileStore<FileFrom<S>>>;
 
 /// Opens a keeper over the file of this name and its log, with no faults yet, and makes the tables that are missing.
 /// Returns None if the name is no path of a file, if the files or the tables cannot be opened,
-/// or if the head of the log is damaged. Damage of the head leaves both files as they were.
+/// or if the log is damaged. Damage of the log leaves both files as they were.
 /// `start` says what the two files hold as they are opened: no code can read it, so the clause holds for all contents.
 pub fn open_keeper<S: Start>(rt: &HostRuntime, name: &Text, start: S) -> Option<FileKeeper<S>>
     ensures { IfSome result (HoldsFiles (image_at S.Start)) }

@@ -10,7 +10,7 @@ use sqlite_wal::checksum_of;
 use std::io;
 
 // A head: the magic number, the format, the size of a page, a count, two salts, and the checksum of all these.
-const HEAD_LEN: usize = 32;
+pub const HEAD_LEN: usize = 32;
 
 // The length of a log that holds nothing: a head, and the first bytes of a frame.
 const EMPTY_LEN: usize = 41;
@@ -47,8 +47,8 @@ fn read_first<D: Disk>(log: &mut D) -> io::Result<u8>
     Ok(bytes[0])
 }
 
-// Reads the head of a log.
-fn read_head<D: Disk>(log: &mut D) -> io::Result<[u8; 32]>
+/// Reads the head of a log.
+pub fn read_head<D: Disk>(log: &mut D) -> io::Result<[u8; 32]>
     requires { IsTrue (D.Disk.is_usable log.old) }
     ensures head { IfOk result (λ head. IsClean D.Disk log.new
         → header (D.Disk.seen log.old) ≡ head) }
@@ -59,8 +59,8 @@ fn read_head<D: Disk>(log: &mut D) -> io::Result<[u8; 32]>
     Ok(head)
 }
 
-// Returns whether a head begins with the magic number and ends with its own checksum.
-fn is_signed(head: &[u8; 32]) -> bool
+/// Returns whether a head begins with the magic number and ends with its own checksum.
+pub fn is_signed(head: &[u8; 32]) -> bool
     ensures { IsTrue result ↔ IsSigned head.now }
 {
     if head[0] != 0x37 || !has_magic_end(head) {
@@ -85,13 +85,13 @@ fn has_magic_end(head: &[u8; 32]) -> bool
     head[1] == 0x7f && head[2] == 0x06 && (head[3] == 0x82 || head[3] == 0x83)
 }
 
-// Returns the number in four bytes of a head, the highest first.
-fn number_at(head: &[u8; 32], at: usize) -> u32
-    requires { at + 4 ≤ 32 }
-    ensures { result ≡ be32 head.now at }
+/// Returns the number in four bytes of a log, the highest first.
+pub fn number_at(bytes: &[u8], at: usize) -> u32
+    requires { at + 4 ≤ length bytes.now }
+    ensures { result ≡ be32 bytes.now at }
 {
-    head[at] as u32 * 0x100_0000
-        + head[at + 1] as u32 * 0x1_0000
-        + head[at + 2] as u32 * 0x100
-        + head[at + 3] as u32
+    bytes[at] as u32 * 0x100_0000
+        + bytes[at + 1] as u32 * 0x1_0000
+        + bytes[at + 2] as u32 * 0x100
+        + bytes[at + 3] as u32
 }

@@ -11,6 +11,7 @@
 mod door;
 mod files;
 mod heads;
+mod hidden;
 mod link;
 mod listener;
 mod stores;

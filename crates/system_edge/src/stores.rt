@@ -4,17 +4,18 @@ ghost use Rattle.sqlite.specs.State.{HasCleanDisk};
 ghost use Rattle.sqlite.specs.Held.{IsNew};
 ghost use Rattle.sqlite.specs.Files.{file_state, IsOpened, Finds};
 ghost use Rattle.system_edge.specs.Heads.{HasSoundHead};
+ghost use Rattle.system_edge.specs.Hidden.{HidesNothing};
 ghost use Rattle.system_edge.specs.Stores.{IsRefused, files_left};
 
-use crate::heads::has_sound_head;
+use crate::hidden::is_sound;
 use sqlite::{Connection, FileStore, Files, Options};
 use sqlite_disk::Disk;
 use std::alloc::Global;
 
 /// Files that were not opened.
 pub enum Unopened<D: Disk> {
-    /// The head of the log is not sound, or could not be read. Neither file was written.
-    Head(Files<D>),
+    /// The log is damaged, or could not be read. Neither file was written.
+    Log(Files<D>),
     /// The database refused the files, or failed.
     Database(Files<D>),
 }
@@ -25,7 +26,7 @@ impl<D: Disk> Unopened<D> {
         ensures { (result.log, result.db) ≡ files_left self }
     {
         match self {
-            Unopened::Head(files) | Unopened::Database(files) => files,
+            Unopened::Log(files) | Unopened::Database(files) => files,
         }
     }
 }
@@ -34,15 +35,15 @@ impl<D: Disk> Unopened<D> {
 impl<D: Disk + Drop> Drop for Unopened<D> {
     fn drop(self) {
         match self {
-            Unopened::Head(_files) => {}
+            Unopened::Log(_files) => {}
             Unopened::Database(_files) => {}
         }
     }
 }
 
 /// Opens the database in these files. An empty file gets an empty database.
-/// A log whose head is not sound is refused before the database sees it, and neither file is written:
-/// the database would take such a log for an empty one, and what it holds would be lost.
+/// A log whose head is not sound, or that hides a commit behind damage, is refused before the database sees it.
+/// Neither file is written then: the database would cut such a log, and what it holds would be lost.
 pub fn open_store<D: Disk + Drop>(
     alloc: Global,
     mut files: Files<D>,
@@ -54,10 +55,12 @@ pub fn open_store<D: Disk + Drop>(
     ensures opened { IfOk result (λ c. HasCleanDisk (file_state c) → IsOpened c × Finds files c) }
     ensures sound { IfOk result (λ c. HasCleanDisk (file_state c)
         → HasSoundHead (D.Disk.seen files.log)) }
+    ensures whole { IfOk result (λ c. HasCleanDisk (file_state c)
+        → HidesNothing (D.Disk.seen files.log)) }
     ensures refused { IfErr result (IsRefused D.Disk files) }
 {
-    let Ok(true) = has_sound_head(&mut files.log) else {
-        return Err(Unopened::Head(files));
+    let Ok(true) = is_sound(alloc, &mut files.log) else {
+        return Err(Unopened::Log(files));
     };
     match Connection::open_files(alloc, files, options) {
         Ok(connection) => Ok(connection),
