@@ -4,7 +4,7 @@ ghost use Rattle.std.specs.Prelude.{◌≡◌, ◌≤◌, ◌<◌, ◌∷◌, If
 ghost use Rattle.office_base.specs.Merit.{IsNewTo};
 ghost use Rattle.office_base.specs.Person.{IsList};
 ghost use Rattle.office_base.specs.Version.{IsVersion};
-ghost use Rattle.open_then_category.specs.State.{nobody};
+ghost use Rattle.open_then_category.specs.State.{nobody, admissions_of};
 ghost use Rattle.programme_lists.specs.Chosen.{AreApplicants, everybody};
 ghost use Rattle.seat_matrix.specs.Matrix.{seats_in};
 ghost use Rattle.seat_matrix.specs.Seats.{AreProgrammeSeats};
@@ -83,9 +83,9 @@ fn seekers(alloc: Global, stride: u32) -> Result<Vec<Person>, OutOfMemory>
 fn offer_one<L: Ledger>(state: &mut ProgrammeState, steps: &mut Steps<L>, person: &Person)
     requires sound { AreProgrammeSeats state.old.seats }
     requires may { AreApplicants state.old.seats.list
-        (person.now ∷ everybody state.old.admissions) }
+        (person.now ∷ everybody (admissions_of state.old)) }
     ensures seats { state.new.seats ≡ state.old.seats }
-    ensures may { AreApplicants state.old.seats.list (everybody state.new.admissions) }
+    ensures may { AreApplicants state.old.seats.list (everybody (admissions_of state.new)) }
 {
     open_then_category::laws::admitted_once();
     merit_choice::laws::part_can_be_ranked();
@@ -103,9 +103,9 @@ fn offer_new<L: Ledger>(
     requires list { IsList list }
     requires same { state.old.seats.list ≡ list }
     requires sound { AreProgrammeSeats state.old.seats }
-    requires may { AreApplicants list (everybody state.old.admissions) }
+    requires may { AreApplicants list (everybody (admissions_of state.old)) }
     ensures seats { state.new.seats ≡ state.old.seats }
-    ensures may { AreApplicants list (everybody state.new.admissions) }
+    ensures may { AreApplicants list (everybody (admissions_of state.new)) }
 {
     let held = held_by(alloc, state)?;
     if !is_new(list, held.as_slice(), person) {
@@ -126,7 +126,7 @@ fn offer_all<L: Ledger>(
     requires list { IsList list }
     requires same { state.old.seats.list ≡ list }
     requires sound { AreProgrammeSeats state.old.seats }
-    requires may { AreApplicants list (everybody state.old.admissions) }
+    requires may { AreApplicants list (everybody (admissions_of state.old)) }
 {
     let mut all = true;
     for person in people {
@@ -146,7 +146,7 @@ fn holds_choice_after<L: Ledger>(
     requires programme { chooser.now.prog.0 < length chooser.now.matrix.now.programmes }
     requires version { IsVersion chooser.now.version }
     requires seats { state.old.seats ≡ seats_in chooser.now.matrix.now chooser.now.prog.0 }
-    requires nobody { state.old.admissions ≡ nobody }
+    requires nobody { (admissions_of state.old) ≡ nobody }
 {
     let list = chooser.matrix.programme(chooser.prog).list;
     Ok(

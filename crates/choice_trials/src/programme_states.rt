@@ -1,10 +1,11 @@
 // What a programme holds after people came to it one at a time, compared with its choice from all of them.
-ghost use Rattle.std.specs.Prelude.{◌≡◌, ◌<◌, ◌++◌, IfOk, length};
+ghost use Rattle.std.specs.Prelude.{◌≡◌, ◌<◌, IfOk, length};
 ghost use Rattle.office_base.specs.Version.{IsVersion};
 ghost use Rattle.programme_lists.specs.Chosen.{everybody};
+ghost use Rattle.open_then_category.specs.State.{admissions_of};
 
 use crate::candidates::may_all_apply;
-use office_base::{OutOfMemory, Person, ProgId, StepKind};
+use office_base::{ALL_STEPS, OutOfMemory, Person, ProgId};
 use open_then_category::{ProgrammeState, programme_choice};
 use seat_matrix::Matrix;
 use std::alloc::Global;
@@ -17,25 +18,15 @@ pub struct Chooser<'a> {
     pub prog: ProgId,
 }
 
-// Some people, and others after them.
-fn joined(alloc: Global, people: &[Person], others: &[Person]) -> Result<Vec<Person>, OutOfMemory>
-    ensures { IfOk result (λ all. all.items ≡ people.now ++ others.now) }
-{
-    let mut all = Vec::from_slice(alloc, people)?;
-    all.extend_from_slice(others)?;
-    Ok(all)
-}
-
 /// Everybody whom the programme admits, step after step.
 pub fn held_by(alloc: Global, state: &ProgrammeState) -> Result<Vec<Person>, OutOfMemory>
-    ensures { IfOk result (λ people. people.items ≡ everybody state.now.admissions) }
+    ensures { IfOk result (λ people. people.items ≡ everybody (admissions_of state.now)) }
 {
-    let dereserved = Vec::from_slice(alloc, state.admitted(StepKind::Dereserved))?;
-    let from_st = joined(alloc, state.admitted(StepKind::St), dereserved.as_slice())?;
-    let from_sc = joined(alloc, state.admitted(StepKind::Sc), from_st.as_slice())?;
-    let from_obc = joined(alloc, state.admitted(StepKind::Obc), from_sc.as_slice())?;
-    let from_ews = joined(alloc, state.admitted(StepKind::Ews), from_obc.as_slice())?;
-    joined(alloc, state.admitted(StepKind::Open), from_ews.as_slice())
+    let mut all = Vec::new(alloc);
+    for step in ALL_STEPS {
+        all.extend_from_slice(state.admitted(step))?;
+    }
+    Ok(all)
 }
 
 /// Whether each step admits whom it does in the choice of the programme from all who came.

@@ -1,6 +1,7 @@
 -- A season of five candidates for a programme of three open seats, two of them protected for women; only the fourth
 -- candidate is one. Anyone who asks why gets an answer.
-use Rattle.std.specs.Prelude.{◌≡◌, ℕ, Bool, true, false, List, [], ◌∷◌, Some, None, codes}
+use Rattle.std.specs.Prelude.{◌≡◌, ◌++◌, ℕ, Bool, true, false, List, [], ◌∷◌, Some, None, codes, map}
+use Rattle.office_base.specs.CategorySteps.{category_steps}
 use Rattle.office_base.specs.declared.asks.Ask.TheVariants.{Why, List as AskList}
 use Rattle.office_base.specs.declared.asks.By.{By}
 use Rattle.office_base.specs.declared.asks.By.TheVariants.{Clerk, Candidate, Nobody}
@@ -9,7 +10,8 @@ use Rattle.office_base.specs.declared.person.Category.TheVariants.{Gen}
 use Rattle.office_base.specs.declared.person.Person.{Person}
 use Rattle.office_base.specs.declared.person.Place.TheVariants.{Absent, Common}
 use Rattle.office_base.specs.declared.step.StepKind.{StepKind}
-use Rattle.office_base.specs.declared.step.StepKind.TheVariants.{Open, Ews, Obc, Sc, St, Dereserved}
+use Rattle.office_base.specs.declared.step.StepKind.TheVariants.{Open, Dereserved}
+use Rattle.seat_matrix.specs.Seats.{no_seatings, with_seating}
 use Rattle.seeks.specs.declared.seek.Seek.TheVariants.{Whole}
 use Rattle.programme_lists.specs.declared.programme.Programme.{Programme}
 use Rattle.programme_lists.specs.declared.programme.StepList.{StepList}
@@ -37,7 +39,7 @@ season = record {
   holders = [];
   matrix = record {
     programmes = (codes "P", home (codes "I1")) ∷ (codes "Q", home (codes "I1")) ∷ [];
-    steps = record one_seat { open_step = record { seats = 3; protections = record { counts = 2 ∷ 0 ∷ 0 ∷ 0 ∷ 0 ∷ 0 ∷ [] } } } ∷ one_seat ∷ [];
+    steps = with_seating no_seatings Open (record { seats = 3; protections = record { counts = 2 ∷ 0 ∷ 0 ∷ 0 ∷ 0 ∷ 0 ∷ [] } }) ∷ one_seat ∷ [];
   };
   lists = (1, prog 0 ∷ []) ∷ (2, prog 0 ∷ []) ∷ (3, prog 0 ∷ []) ∷ (4, prog 0 ∷ []) ∷ (5, prog 0 ∷ []) ∷ [];
   text = [];
@@ -47,15 +49,19 @@ season = record {
 abbrev pub nobody : StepKind → ℕ → StepList
 nobody kind candidates = record { kind = kind; seats = 0; candidates = candidates; admitted = []; cert = record { pairs = [] } }
 
+-- those of all categories, and of the de-reserved step
+abbrev pub others : ℕ → List StepList
+others candidates = map (λ row. nobody row.step 0) category_steps ++ nobody Dereserved candidates ∷ []
+
 abbrev pub admitting : Programme
 admitting = record {
   steps = record { kind = Open; seats = 3; candidates = 5; admitted = person 1 0 ∷ person 2 0 ∷ person 4 1 ∷ []; cert = record { pairs = record { cand = cand 4; slot = 0 } ∷ [] } }
-      ∷ nobody Ews 0 ∷ nobody Obc 0 ∷ nobody Sc 0 ∷ nobody St 0 ∷ nobody Dereserved 2 ∷ [];
+      ∷ others 2;
 }
 
 abbrev pub empty : Programme
 empty = record {
-  steps = record { kind = Open; seats = 1; candidates = 0; admitted = []; cert = record { pairs = [] } } ∷ nobody Ews 0 ∷ nobody Obc 0 ∷ nobody Sc 0 ∷ nobody St 0 ∷ nobody Dereserved 0 ∷ [];
+  steps = record { kind = Open; seats = 1; candidates = 0; admitted = []; cert = record { pairs = [] } } ∷ others 0;
 }
 
 abbrev pub round : Round

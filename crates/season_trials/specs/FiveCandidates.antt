@@ -14,7 +14,7 @@ use Rattle.office_base.specs.declared.person.Place.TheVariants.{Absent, Common}
 use Rattle.office_base.specs.declared.person.ProgId.{ProgId}
 use Rattle.office_base.specs.declared.step.StepKind.TheVariants.{Open}
 use Rattle.kept_rows.specs.declared.rows.AllotRow.{AllotRow}
-use Rattle.seat_matrix.specs.Seats.{no_protections, no_seating}
+use Rattle.seat_matrix.specs.Seats.{no_protections, no_seatings, with_seating}
 use Rattle.seat_matrix.specs.declared.entry.Home.{Home}
 use Rattle.seat_matrix.specs.declared.seats.Seatings.{Seatings}
 use Rattle.seeks.specs.declared.seek.Seek.{Seek}
@@ -45,7 +45,7 @@ abbrev pub home : List ℕ → Home
 home institute = record { institute = institute; list = record { 0 = 1 } }
 
 abbrev pub one_seat : Seatings
-one_seat = record { open_step = record { seats = 1; protections = no_protections }; ews = no_seating; obc = no_seating; sc = no_seating; st = no_seating }
+one_seat = with_seating no_seatings Open (record { seats = 1; protections = no_protections })
 
 abbrev pub season : SeasonFacts
 season = record {
