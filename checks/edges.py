@@ -201,16 +201,17 @@ def with_files(path, files):
 
 @in_a_room
 def damaged_head(room, program, _bundle):
-    """The log of a killed run with one damaged bit in each byte of its head, with zeros there, or cut within it: the store is refused and neither file changes.
+    """The log of a killed run with one damaged bit in each byte of its head or in its first page, with zeros there, or cut within it: the store is refused and
+    neither file changes.
     Undamaged it resumes, and so does the store with all that the log held, next to that log with a first byte of 0: a checkpoint that was cut short leaves it so."""
     path, (store, log) = f"{room}/season.db", crashed_store(room, program)
-    heads = [log[:at] + bytes([log[at] ^ 1 << at % 8]) + log[at + 1:] for at in range(32)]
+    heads = [log[:at] + bytes([log[at] ^ 1 << at % 8]) + log[at + 1:] for at in (*range(32), 1_000)]
     for head in [*heads, bytes(512) + log[512:], log[:20]]:
         with_files(path, (store, head))
         came = ended([program, "resume", "season.db"], room, input=b"")
-        fault = is_so("resume of a store whose log has a damaged head", came, NO_STORE)
+        fault = is_so("resume of a store whose log is damaged", came, NO_STORE)
         if fault or bytes_of(path) != [store, head]:
-            return fault or "resume of a store whose log has a damaged head: a file was changed"
+            return fault or "resume of a store whose log is damaged: a file was changed"
     with_files(path, (store, log))
     asks = {"input": b"state,nobody\n"}
     told = ended([program, "resume", "season.db"], room, **asks)
