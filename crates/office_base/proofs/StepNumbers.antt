@@ -1,62 +1,56 @@
--- Each step has a number from 0 to 5, which is its place in the order of the steps, and each category has one.
-use Rattle.std.proofs.Common.{◌≡◌, ◌<◌, ℕ, zero, suc, Bool, true, false, List, [], ◌∷◌, Some, None, arith, inl, inr, refl, sym, ap, ◌∙◌, subst}
-use Rattle.std.proofs.lemmas.Bool.{and_parts, cases_Bool, cond-false, cond-true}
+-- Each step has a number, which is its place in the order of the steps, and each category has one.
+use Rattle.std.proofs.Common.{◌≡◌, ◌<◌, ◌+◌, ◌&&◌, ℕ, zero, suc, Bool, true, false, eqb, List, [], ◌∷◌, Some, None, get_or, length, map, arith, inl, inr, refl, sym, ap, ◌∙◌, subst}
+use Rattle.std.proofs.lemmas.Bool.{and_parts, cases_Bool, cond-false, cond-true, eqb-true}
 use Rattle.std.specs.List.{list_all}
 use Rattle.std.specs.Prelude.{find, slice_get}
 use Rattle.office_base.specs.declared.person.Category.{Category}
-use Rattle.office_base.specs.declared.person.Category.TheVariants.{Gen, Ews as InEws, Obc as InObc, Sc as InSc, St as InSt}
+use Rattle.office_base.specs.declared.person.Category.TheVariants.{Gen}
 use Rattle.office_base.specs.declared.step.StepKind.{StepKind}
-use Rattle.office_base.specs.declared.step.StepKind.TheVariants.{Open, Ews, Obc, Sc, St, Dereserved}
-use Rattle.office_base.specs.CategorySteps.{all_steps, category_number, own_steps}
+use Rattle.office_base.specs.declared.step.StepKind.TheVariants.{Open, Dereserved}
+use Rattle.office_base.specs.CategorySteps.{all_steps, category_number, category_steps, own_steps}
 use Rattle.office_base.specs.StepNumbers.{step_number}
 
 -- the step of a number
 abbrev kind_of : ℕ → StepKind
-kind_of zero = Open
-kind_of (suc zero) = Ews
-kind_of (suc (suc zero)) = Obc
-kind_of (suc (suc (suc zero))) = Sc
-kind_of (suc (suc (suc (suc zero)))) = St
-kind_of (suc (suc (suc (suc (suc n))))) = Dereserved
+kind_of number = get_or all_steps number Open
 
 of_number : (kind : StepKind) → kind_of (step_number kind) ≡ kind
 of_number Open = refl
-of_number Ews = refl
-of_number Obc = refl
-of_number Sc = refl
-of_number St = refl
-of_number Dereserved = refl
+of_number kind = refl
 
 -- different steps have different numbers
 pub one_number : (kind other : StepKind) → step_number kind ≡ step_number other → kind ≡ other
 one_number kind other same = sym (of_number kind) ∙ (ap kind_of same ∙ of_number other)
 
--- there are six of them
-pub below_six : (kind : StepKind) → step_number kind < 6
-below_six Open = omega arith
-below_six Ews = omega arith
-below_six Obc = omega arith
-below_six Sc = omega arith
-below_six St = omega arith
-below_six Dereserved = omega arith
+-- each is below their count
+pub below_all : (kind : StepKind) → step_number kind < length all_steps
+below_all Open = omega arith
+below_all kind = omega arith
 
--- those with a number below five have seats of their own, and each is at the place of its number among them
-pub own_at : (kind : StepKind) → step_number kind < 5 → slice_get own_steps (step_number kind) ≡ Some kind
-own_at Open below = refl
-own_at Ews below = refl
-own_at Obc below = refl
-own_at Sc below = refl
-own_at St below = refl
+-- those with a smaller number than the last have seats of their own, and each is at the place of its number among them
+pub own_at : (kind : StepKind) → step_number kind < length own_steps → slice_get own_steps (step_number kind) ≡ Some kind
 own_at Dereserved below = absurd (omega (arith, below))
+own_at kind below = refl
+
+-- the steps have the numbers from this one on
+abbrev pub numbered : ℕ → List StepKind → Bool
+numbered number [] = true
+numbered number (kind ∷ more) = eqb (step_number kind) number && numbered (suc number) more
+
+-- in such a list, the number of a step is its place
+numbered_at : (number : ℕ) (steps : List StepKind) (j : ℕ) (kind : StepKind) → numbered number steps ≡ true → slice_get steps j ≡ Some kind → step_number kind ≡ number + j
+numbered_at number [] j kind all at = absurd (cc)
+numbered_at number (first ∷ steps) zero kind all at =
+    let one = eqb-true (step_number first) number (and_parts (eqb (step_number first) number) (numbered (suc number) steps) all).0 in
+    let same : step_number first ≡ step_number kind = ap step_number (let it : first ≡ kind = cc in it) in
+    omega arith
+numbered_at number (first ∷ steps) (suc j) kind all at =
+    let later = numbered_at (suc number) steps j kind (and_parts (eqb (step_number first) number) (numbered (suc number) steps) all).1 at in
+    omega (arith, later)
 
 -- the number of a step with seats of its own is its place among them
 pub own_number_at : (j : ℕ) (kind : StepKind) → slice_get own_steps j ≡ Some kind → step_number kind ≡ j
-own_number_at zero kind at = ap step_number (let same : Open ≡ kind = cc in sym same)
-own_number_at (suc zero) kind at = ap step_number (let same : Ews ≡ kind = cc in sym same)
-own_number_at (suc (suc zero)) kind at = ap step_number (let same : Obc ≡ kind = cc in sym same)
-own_number_at (suc (suc (suc zero))) kind at = ap step_number (let same : Sc ≡ kind = cc in sym same)
-own_number_at (suc (suc (suc (suc zero)))) kind at = ap step_number (let same : St ≡ kind = cc in sym same)
-own_number_at (suc (suc (suc (suc (suc j))))) kind at = absurd (cc)
+own_number_at j kind at = let is = numbered_at 0 own_steps j kind refl at in omega (arith, is)
 
 -- the steps in their order
 abbrev pub kinds : List StepKind
@@ -65,21 +59,11 @@ kinds = all_steps
 -- each step is at the place of its number
 pub kind_at : (kind : StepKind) → slice_get kinds (step_number kind) ≡ Some kind
 kind_at Open = refl
-kind_at Ews = refl
-kind_at Obc = refl
-kind_at Sc = refl
-kind_at St = refl
-kind_at Dereserved = refl
+kind_at kind = refl
 
 -- the number of a step is its place
 pub number_at : (j : ℕ) (kind : StepKind) → slice_get kinds j ≡ Some kind → step_number kind ≡ j
-number_at zero kind at = ap step_number (let same : Open ≡ kind = cc in sym same)
-number_at (suc zero) kind at = ap step_number (let same : Ews ≡ kind = cc in sym same)
-number_at (suc (suc zero)) kind at = ap step_number (let same : Obc ≡ kind = cc in sym same)
-number_at (suc (suc (suc zero))) kind at = ap step_number (let same : Sc ≡ kind = cc in sym same)
-number_at (suc (suc (suc (suc zero)))) kind at = ap step_number (let same : St ≡ kind = cc in sym same)
-number_at (suc (suc (suc (suc (suc zero))))) kind at = ap step_number (let same : Dereserved ≡ kind = cc in sym same)
-number_at (suc (suc (suc (suc (suc (suc j)))))) kind at = absurd (cc)
+number_at j kind at = let is = numbered_at 0 all_steps j kind refl at in omega (arith, is)
 
 -- what passes a test that all of some steps pass
 all_at : (test : StepKind → Bool) (steps : List StepKind) (j : ℕ) (kind : StepKind) → list_all test steps ≡ true → slice_get steps j ≡ Some kind → test kind ≡ true
@@ -122,18 +106,11 @@ no_step test none kind = none_among test all_steps (step_number kind) kind none 
 
 -- the category of a number
 abbrev category_of : ℕ → Category
-category_of zero = Gen
-category_of (suc zero) = InEws
-category_of (suc (suc zero)) = InObc
-category_of (suc (suc (suc zero))) = InSc
-category_of (suc (suc (suc (suc n)))) = InSt
+category_of number = get_or (Gen ∷ map (λ row. row.category) category_steps) number Gen
 
 of_category : (category : Category) → category_of (category_number category) ≡ category
 of_category Gen = refl
-of_category InEws = refl
-of_category InObc = refl
-of_category InSc = refl
-of_category InSt = refl
+of_category category = refl
 
 -- different categories have different numbers
 pub one_category : (category other : Category) → category_number category ≡ category_number other → category ≡ other

@@ -1,5 +1,5 @@
 -- The steps of a programme, as a table: the open step, a step for each category that has seats of its own, and last the de-reserved one.
-use Rattle.std.specs.Prelude.{◌==◌, ◌++◌, ℕ, Bool, true, false, List, [], ◌∷◌, Option, Some, None, map, if◌then◌else◌}
+use Rattle.std.specs.Prelude.{◌==◌, ◌++◌, ℕ, Bool, true, false, List, [], ◌∷◌, Option, Some, None, map, slice_get, if◌then◌else◌}
 use Rattle.office_base.specs.StepNumbers.{step_number}
 use Rattle.office_base.specs.declared.category_steps.CategoryStep.{CategoryStep}
 use Rattle.office_base.specs.declared.category_steps.GivesUp.{GivesUp}
@@ -35,6 +35,10 @@ own_steps = Open ∷ map (λ row. row.step) category_steps
 -- all steps, in their order
 abbrev pub all_steps : List StepKind
 all_steps = own_steps ++ Dereserved ∷ []
+
+-- the step of a number, if there is one
+abbrev pub step_of_number : ℕ → Option StepKind
+step_of_number number = slice_get all_steps number
 
 -- the row of a step, if it is the step of a category
 abbrev pub row_among : StepKind → List CategoryStep → Option CategoryStep

@@ -1,6 +1,7 @@
 -- What holds of the words of the office.
 use Rattle.std.specs.Prelude.{◌≡◌, ℕ, Some}
-use Rattle.office_base.specs.StepNumbers.{step_number, step_of_number}
+use Rattle.office_base.specs.CategorySteps.{step_of_number}
+use Rattle.office_base.specs.StepNumbers.{step_number}
 use Rattle.office_base.specs.declared.step.StepKind.{StepKind}
 
 -- Inverse: a step is the one of its number, and the number of that step is no other.

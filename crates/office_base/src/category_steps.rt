@@ -21,8 +21,17 @@ pub struct CategoryStep {
     pub gives_up: GivesUp,
 }
 
+/// How many categories have seats of their own.
+pub const CATEGORY_COUNT: usize = 4;
+
+/// How many steps have seats of their own: the open one, and that of each such category.
+pub const OWN_COUNT: usize = CATEGORY_COUNT + 1;
+
+/// How many steps there are: the last one is the de-reserved step.
+pub const STEP_COUNT: usize = OWN_COUNT + 1;
+
 /// The steps that have seats of their own, in the order in which a programme fills them.
-pub const OWN_STEPS: [StepKind; 5] = [
+pub const OWN_STEPS: [StepKind; OWN_COUNT] = [
     StepKind::Open,
     StepKind::Ews,
     StepKind::Obc,
@@ -31,7 +40,7 @@ pub const OWN_STEPS: [StepKind; 5] = [
 ];
 
 /// All steps, in their order.
-pub const ALL_STEPS: [StepKind; 6] = [
+pub const ALL_STEPS: [StepKind; STEP_COUNT] = [
     StepKind::Open,
     StepKind::Ews,
     StepKind::Obc,
@@ -42,7 +51,7 @@ pub const ALL_STEPS: [StepKind; 6] = [
 
 /// The categories that have seats of their own, in the order in which a programme fills them. OBC gives its empty seats
 /// away in each version of the bundle, and EWS in version 2. The empty seats of SC and ST stay empty.
-pub const CATEGORY_STEPS: [CategoryStep; 4] = [
+pub const CATEGORY_STEPS: [CategoryStep; CATEGORY_COUNT] = [
     CategoryStep {
         step: StepKind::Ews,
         category: Category::Ews,

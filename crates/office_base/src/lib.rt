@@ -29,7 +29,10 @@ pub mod words;
 
 pub use asks::{Ask, By, Choice, Request, Seat};
 pub use booked::Booked;
-pub use category_steps::{ALL_STEPS, CATEGORY_STEPS, CategoryStep, GivesUp, OWN_STEPS, gives_up};
+pub use category_steps::{
+    ALL_STEPS, CATEGORY_COUNT, CATEGORY_STEPS, CategoryStep, GivesUp, OWN_COUNT, OWN_STEPS,
+    STEP_COUNT, gives_up,
+};
 pub use code::Code;
 pub use errors::{Failed, OutOfMemory};
 pub use listed::{Listed, Pairs, People, Text};

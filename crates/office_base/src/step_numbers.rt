@@ -1,10 +1,11 @@
-// The number of a step among the six, and the step of a number.
+// The number of a step among all steps, and the step of a number.
 ghost use Rattle.std.specs.Prelude.{◌≡◌};
-ghost use Rattle.office_base.specs.StepNumbers.{step_number, step_of_number};
+ghost use Rattle.office_base.specs.CategorySteps.{step_of_number};
+ghost use Rattle.office_base.specs.StepNumbers.{step_number};
 
-use crate::StepKind;
+use crate::{ALL_STEPS, StepKind};
 
-/// Returns the number of a step among the six, from 0.
+/// Returns the number of a step among all steps, from 0.
 pub fn step_number(step: StepKind) -> u8
     ensures { result ≡ step_number step }
 {
@@ -22,13 +23,5 @@ pub fn step_number(step: StepKind) -> u8
 pub fn step_of_number(number: u8) -> Option<StepKind>
     ensures { result ≡ step_of_number number }
 {
-    match number {
-        0 => Some(StepKind::Open),
-        1 => Some(StepKind::Ews),
-        2 => Some(StepKind::Obc),
-        3 => Some(StepKind::Sc),
-        4 => Some(StepKind::St),
-        5 => Some(StepKind::Dereserved),
-        _ => None,
-    }
+    ALL_STEPS.get(usize::from(number)).copied()
 }
