@@ -43,7 +43,7 @@ fn second_name(kind: StepKind) -> &'static str
 }
 
 /// Returns whether a text is a name of this step.
-fn is_named(text: &[u8], kind: StepKind) -> bool
+pub fn is_named(text: &[u8], kind: StepKind) -> bool
     ensures { result ≡ is_named text.now kind }
 {
     text == step_name(kind).as_bytes() || text == second_name(kind).as_bytes()

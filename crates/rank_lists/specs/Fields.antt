@@ -1,22 +1,20 @@
 -- How the fields of a row are spelled.
-use Rattle.std.specs.Prelude.{◌-◌, ℕ, ◌==◌, ◌||◌, List, Option, Some, None, length, take, slice_index, bytes_eq, codes, if◌then◌else◌}
+use Rattle.std.specs.Prelude.{◌-◌, ℕ, ◌==◌, List, Option, Some, length, take, find, slice_index, bytes_eq, codes, if◌then◌else◌}
+use Rattle.office_base.specs.CategorySteps.{category_steps}
 use Rattle.office_base.specs.Limits.{last_place}
 use Rattle.office_base.specs.declared.person.Category.{Category}
-use Rattle.office_base.specs.declared.person.Category.TheVariants.{Gen, Ews, Obc, Sc, St}
+use Rattle.office_base.specs.declared.person.Category.TheVariants.{Gen}
 use Rattle.office_base.specs.declared.person.Place.{Place}
 use Rattle.office_base.specs.declared.person.Place.TheVariants.{Absent, Common, Relaxed}
+use Rattle.office_text.specs.Names.{is_named}
 use Rattle.office_text.specs.Number.{number_within}
 use Rattle.std.specs.Option.{option_map}
 
--- the category that a text spells
+-- the category that a text spells: the general one has its own name, and any other is named as its step is
 abbrev pub category_of : List ℕ → Option Category
 category_of text =
     if bytes_eq text (codes "GEN") then Some Gen
-    else if bytes_eq text (codes "EWS") || bytes_eq text (codes "GEN-EWS") then Some Ews
-    else if bytes_eq text (codes "OBC") || bytes_eq text (codes "OBC-NCL") then Some Obc
-    else if bytes_eq text (codes "SC") then Some Sc
-    else if bytes_eq text (codes "ST") then Some St
-    else None
+    else option_map (λ row. row.category) (find (λ row. is_named text row.step) category_steps)
 
 -- the number of a place
 abbrev pub place_number : List ℕ → Option ℕ

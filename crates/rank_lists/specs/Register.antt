@@ -9,7 +9,7 @@ use Rattle.office_base.specs.Lists.{Pairwise}
 use Rattle.office_base.specs.Person.{number_of, place_in, IsBetter, IsTraitSet}
 use Rattle.office_base.specs.declared.person.CandId.{CandId}
 use Rattle.office_base.specs.declared.person.Category.{Category}
-use Rattle.office_base.specs.declared.person.Category.TheVariants.{Gen, Ews, Obc, Sc, St}
+use Rattle.office_base.specs.declared.person.Category.TheVariants.{Gen}
 use Rattle.office_base.specs.declared.person.ListId.{ListId}
 use Rattle.office_base.specs.declared.person.Person.{Person}
 use Rattle.office_base.specs.declared.person.Place.{Place}
@@ -65,10 +65,7 @@ is_relaxed (Relaxed n) = true
 -- the general category
 abbrev pub is_general : Category → Bool
 is_general Gen = true
-is_general Ews = false
-is_general Obc = false
-is_general Sc = false
-is_general St = false
+is_general category = false
 
 -- a new id: the number of candidates, the spelling of the id, and the ids of the entries
 abbrev pub new_id : List Entry → Row → Result ℕ RankKind

@@ -3,26 +3,22 @@ ghost use Rattle.std.specs.Prelude.{◌≡◌};
 ghost use Rattle.rank_lists.specs.Fields.{category_of, place_of};
 
 use office_base::limits::LAST_PLACE;
-use office_base::{Category, Place};
-use office_text::read_number;
+use office_base::{CATEGORY_STEPS, Category, Place};
+use office_text::{is_named, read_number};
 
-/// The category that a text spells.
+/// The category that a text spells: `GEN`, or a name of the step of a category.
 pub(crate) fn read_category(text: &[u8]) -> Option<Category>
     ensures { result ≡ category_of text.now }
 {
     if text == b"GEN".as_slice() {
-        Some(Category::Gen)
-    } else if text == b"EWS".as_slice() || text == b"GEN-EWS".as_slice() {
-        Some(Category::Ews)
-    } else if text == b"OBC".as_slice() || text == b"OBC-NCL".as_slice() {
-        Some(Category::Obc)
-    } else if text == b"SC".as_slice() {
-        Some(Category::Sc)
-    } else if text == b"ST".as_slice() {
-        Some(Category::St)
-    } else {
-        None
+        return Some(Category::Gen);
     }
+    for row in CATEGORY_STEPS {
+        if is_named(text, row.step) {
+            return Some(row.category);
+        }
+    }
+    None
 }
 
 /// The place that a text spells: nothing for none, a number for a common place, a number with `R` for a relaxed one.
