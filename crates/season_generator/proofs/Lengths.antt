@@ -6,9 +6,10 @@ use Rattle.std.specs.List.{AllByRecursion, flat_map, range_with_len}
 use Rattle.std.proofs.lemmas.Fmt.{length-decimal-le}
 use Rattle.std.proofs.lemmas.List.FromFn.{length-map-range_with_len}
 use Rattle.office_base.specs.declared.person.Category.{Category}
-use Rattle.office_base.specs.declared.person.Category.TheVariants.{Gen, Ews, Obc, Sc, St}
+use Rattle.office_base.specs.declared.person.Category.TheVariants.{Gen}
 use Rattle.section_rows.specs.Rows.{Row}
-use Rattle.season_generator.specs.Bundle.{category_name, choice_name, programme_code, profile_of, traits_name}
+use Rattle.office_text.specs.Names.{category_name}
+use Rattle.season_generator.specs.Bundle.{choice_name, programme_code, profile_of, traits_name}
 use Rattle.season_generator.specs.Draws.{state_after, drawn}
 use Rattle.season_generator.specs.declared.profile.Profile.{Profile}
 use Rattle.season_generator.proofs.Numbers.{own-token}
@@ -55,10 +56,7 @@ decimal-short n low = length-decimal-le 6 n (omega arith) (omega (arith, low)) (
 
 category-short : (category : Category) → IsShort (category_name category)
 category-short Gen = lit≤ tt
-category-short Ews = lit≤ tt
-category-short Obc = lit≤ tt
-category-short Sc = lit≤ tt
-category-short St = lit≤ tt
+category-short category = lit≤ tt
 
 traits-short : (women disabled : Bool) → IsShort (traits_name women disabled)
 traits-short false false = lit≤ tt

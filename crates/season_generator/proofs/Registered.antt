@@ -9,7 +9,7 @@ use Rattle.std.proofs.lemmas.Slice.Eq.{bytes_eq-Decides}
 use Rattle.office_base.specs.Limits.{last_id, most_candidates}
 use Rattle.office_base.specs.Person.{number_of}
 use Rattle.office_base.specs.declared.person.Category.{Category}
-use Rattle.office_base.specs.declared.person.Category.TheVariants.{Gen, Ews, Obc, Sc, St}
+use Rattle.office_base.specs.declared.person.Category.TheVariants.{Gen}
 use Rattle.office_base.specs.declared.person.Person.{Person}
 use Rattle.office_base.specs.declared.person.Place.{Place}
 use Rattle.office_base.specs.declared.person.Place.TheVariants.{Absent, Common, Relaxed}
@@ -21,7 +21,8 @@ use Rattle.rank_lists.specs.Fields.{category_of, place_of}
 use Rattle.rank_lists.specs.Register.{any_relaxed, header, holder_at, is_general, is_number, is_taken, entries_of, person_at, place_at, reading, token_of}
 use Rattle.rank_lists.specs.declared.entry.Entry.{Entry}
 use Rattle.rank_lists.specs.declared.fault.RankKind.TheVariants.{BadHeader}
-use Rattle.season_generator.specs.Bundle.{category_name, eight_digits, has_relaxed, lines, place_field, profile_at, profile_of, register_row, register_text, stride_of, traits_name}
+use Rattle.office_text.specs.Names.{category_name}
+use Rattle.season_generator.specs.Bundle.{eight_digits, has_relaxed, lines, place_field, profile_at, profile_of, register_row, register_text, stride_of, traits_name}
 use Rattle.season_generator.specs.Draws.{state_after, drawn}
 use Rattle.season_generator.specs.declared.profile.Profile.{Profile}
 use Rattle.season_generator.proofs.PlaceLemmas.{drawn_below}
@@ -100,10 +101,7 @@ row-line id profile first second = rw (place-line first profile.relaxed, place-l
 
 category-word : (category : Category) → is_word (category_name category) ≡ true
 category-word Gen = refl
-category-word Ews = refl
-category-word Obc = refl
-category-word Sc = refl
-category-word St = refl
+category-word category = refl
 
 traits-word : (women disabled : Bool) → is_word (traits_name women disabled) ≡ true
 traits-word false false = refl
@@ -125,10 +123,7 @@ row-is-words id profile first second low high more = (
 
 category-read : (category : Category) → category_of (category_name category) ≡ Some category
 category-read Gen = refl
-category-read Ews = refl
-category-read Obc = refl
-category-read Sc = refl
-category-read St = refl
+category-read category = refl
 
 traits-read : (women disabled : Bool) → traits_of (traits_name women disabled) ≡ Some (traits_made women disabled)
 traits-read false false = refl
@@ -148,10 +143,7 @@ place-number place true = refl
 not-general : (category : Category) (chance relaxed : Bool) (first second : ℕ) → relaxed ≡ (has_relaxed category && chance)
     → (is_general category && any_relaxed (place_made first relaxed ∷ place_made second relaxed ∷ Absent ∷ Absent ∷ [])) ≡ false
 not-general Gen chance relaxed first second e = ap (λ (b : Bool). any_relaxed (place_made first b ∷ place_made second b ∷ Absent ∷ Absent ∷ [])) e
-not-general Ews chance relaxed first second e = refl
-not-general Obc chance relaxed first second e = refl
-not-general Sc chance relaxed first second e = refl
-not-general St chance relaxed first second e = refl
+not-general category chance relaxed first second e = refl
 
 -- What has to hold of a row after others.
 record IsNew (before : List Entry) (id first second : ℕ) : Type 0 where

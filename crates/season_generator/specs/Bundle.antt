@@ -7,6 +7,7 @@ use Rattle.std.specs.Fmt.{decimal}
 use Rattle.std.specs.List.{flat_map, range_with_len}
 use Rattle.office_base.specs.declared.person.Category.{Category}
 use Rattle.office_base.specs.declared.person.Category.TheVariants.{Gen, Ews, Obc, Sc, St}
+use Rattle.office_text.specs.Names.{category_name}
 use Rattle.season_generator.specs.Draws.{state_after, drawn, next}
 use Rattle.season_generator.specs.declared.profile.Profile.{Profile}
 
@@ -35,10 +36,7 @@ category_of number =
 -- whether a category may have relaxed places
 abbrev pub has_relaxed : Category → Bool
 has_relaxed Gen = false
-has_relaxed Ews = true
-has_relaxed Obc = true
-has_relaxed Sc = true
-has_relaxed St = true
+has_relaxed category = true
 
 -- how far a choice is from the one before, by a number below 4
 abbrev pub stride_of : ℕ → ℕ
@@ -58,14 +56,6 @@ profile_at state = record {
 -- the profile of a candidate, counted from 0, where those of all are drawn from this state on
 abbrev pub profile_of : ℕ → ℕ → Profile
 profile_of state candidate = profile_at (state_after (6 * candidate) state)
-
--- a category, as it is written
-abbrev pub category_name : Category → List ℕ
-category_name Gen = codes "GEN"
-category_name Ews = codes "EWS"
-category_name Obc = codes "OBC"
-category_name Sc = codes "SC"
-category_name St = codes "ST"
 
 -- a set of the traits W and D, as it is written
 abbrev pub traits_name : Bool → Bool → List ℕ

@@ -6,9 +6,9 @@ ghost use Rattle.season_generator.specs.Draws.{state_after};
 
 use crate::draws::Draws;
 use crate::profile::Profile;
-use crate::spelling::{category_name, push_code, push_eight_digits, push_place, traits_name};
+use crate::spelling::{push_code, push_eight_digits, push_place, traits_name};
 use office_base::{OutOfMemory, Text};
-use office_text::push_number;
+use office_text::{category_name, push_number};
 
 /// How many programmes each candidate chooses.
 const CHOICES: u32 = 40;

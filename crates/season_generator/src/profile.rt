@@ -65,10 +65,7 @@ fn category_of(number: u32) -> Category
 fn has_relaxed(category: Category) -> bool
     ensures { result ≡ has_relaxed category }
 {
-    match category {
-        Category::Gen => false,
-        Category::Ews | Category::Obc | Category::Sc | Category::St => true,
-    }
+    category != Category::Gen
 }
 
 /// How far a choice is from the one before, by a number below 4.

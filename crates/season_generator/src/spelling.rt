@@ -1,24 +1,11 @@
 // How the fields of generated rows are spelled.
 ghost use Rattle.std.specs.Prelude.{◌≡◌, ◌<◌, ◌∷◌, ◌++◌, OnOk};
 ghost use Rattle.std.specs.Fmt.{decimal};
-ghost use Rattle.season_generator.specs.Bundle.{category_name, programme_code, eight_digits, place_field, traits_name};
+ghost use Rattle.season_generator.specs.Bundle.{programme_code, eight_digits, place_field, traits_name};
 
 use itoa::Buffer;
-use office_base::{Category, OutOfMemory, Text};
+use office_base::{OutOfMemory, Text};
 use office_text::push_number;
-
-/// The name of a category.
-pub(crate) fn category_name(category: Category) -> &'static str
-    ensures { result.now ≡ category_name category }
-{
-    match category {
-        Category::Gen => "GEN",
-        Category::Ews => "EWS",
-        Category::Obc => "OBC",
-        Category::Sc => "SC",
-        Category::St => "ST",
-    }
-}
 
 /// The text of a set of the traits of women and of persons with disabilities.
 pub(crate) fn traits_name(women: bool, disabled: bool) -> &'static str
