@@ -7,14 +7,7 @@ use office_base::{Category, Person, Place};
 pub(crate) fn same_category(a: Category, b: Category) -> bool
     ensures { IsTrue result ↔ a ≡ b }
 {
-    match (a, b) {
-        (Category::Gen, Category::Gen) => true,
-        (Category::Ews, Category::Ews) => true,
-        (Category::Obc, Category::Obc) => true,
-        (Category::Sc, Category::Sc) => true,
-        (Category::St, Category::St) => true,
-        _ => false,
-    }
+    a == b
 }
 
 /// Whether the two places are one.
