@@ -63,10 +63,17 @@ fn open_pair<S: Start>(rt: &HostRuntime, path: &str, start: S) -> Option<Files<F
     sqlite_std_file::open(rt, path, start).ok()
 }
 
+// How many pages of the database are kept in memory once they were read: 33 MB of them. The database tests all keys when it
+// opens a store, and with a cache of 8 MB it reads most pages of a large store several times.
+const CACHE_PAGES: usize = 8_000;
+
 // Returns the options of an open, with a number drawn at random for the salts of the log.
 fn options(rt: &HostRuntime) -> Option<Options> {
     let seed = RandomState::new(rt).ok()?.hash_one(&0u8);
-    Some(Options::new(seed))
+    Some(Options {
+        cache_pages: CACHE_PAGES,
+        ..Options::new(seed)
+    })
 }
 
 // The keeper over a new connection, with its tables.
