@@ -50,7 +50,7 @@ shown_at over next p programme (admissions, choice, steps) =
       admissions = admissions;
       choice = choice;
       order = record {
-        six = zip_length R kinds programme.steps steps;
+        whole = zip_length R kinds programme.steps steps;
         each = λ j list at.
             let found = zip_back R kinds programme.steps j list steps at in
             ap step_number found.2.of_kind ∙ number_at j found.0 found.1;

@@ -12,7 +12,7 @@ use Rattle.allocations.specs.Market.{seat_at}
 use Rattle.programme_lists.specs.declared.programme.Programme.{Programme}
 use Rattle.programme_lists.specs.declared.programme.StepList.{StepList}
 use Rattle.office_base.specs.StepNumbers.{step_number}
-use Rattle.office_base.proofs.StepNumbers.{one_number, below_six}
+use Rattle.office_base.proofs.StepNumbers.{one_number, below_all}
 use Rattle.placements.proofs.Convert.{same_cand}
 use Rattle.programme_lists.proofs.Parts.{any_step}
 use Rattle.apply_engine.specs.Made.{AreGiven, AreInOrder, AreOf, ArePut, AreShown, IsPut, IsShownOnce, admitted_of, shown}
@@ -68,11 +68,11 @@ one_programme_more people programmes p programme seats new shown_is at given put
     | inr now ↦
         let here : slice_get programmes p ≡ Some other = subst (λ k. slice_get programmes k ≡ Some other) now at' in
         let same : other ≡ programme = cc in
-        put.here i person kind (below_six kind) there (subst (λ x. IsAmong person (shown x kind)) same among) ∙ ap (λ k. Some (Some (seat_at k kind))) (sym now)
+        put.here i person kind (below_all kind) there (subst (λ x. IsAmong person (shown x kind)) same among) ∙ ap (λ k. Some (Some (seat_at k kind))) (sym now)
   ];
   only = λ i person seat there has. elim (decide i person seat there has) [
     | inl mine ↦
-        let set = put.here i person mine.0 (below_six mine.0) there mine.1 in
+        let set = put.here i person mine.0 (below_all mine.0) there mine.1 in
         let same : seat ≡ seat_at p mine.0 = cc in
         let prog : seat.prog.0 ≡ p = ap (λ (s : Seat). s.prog.0) same in (
           omega (arith, prog),

@@ -1,5 +1,6 @@
 -- What is made before and after the applications: the effective lists, the lists of the programmes, and the seats from them.
 use Rattle.std.specs.Prelude.{◌≡◌, ◌<◌, ◌≤◌, ℕ, List, [], ◌∷◌, Option, Some, None, length, slice_get}
+use Rattle.office_base.specs.CategorySteps.{all_steps}
 use Rattle.office_base.specs.Limits.{most_programmes}
 use Rattle.office_base.specs.Lists.{IsAmong}
 use Rattle.office_base.specs.declared.asks.Seat.{Seat}
@@ -48,7 +49,7 @@ shown programme kind = admitted_of (slice_get programme.steps (step_number kind)
 
 -- the lists are in the order of the steps
 pub record AreInOrder (programme : Programme) : Type 0 where
-  pub six : length programme.steps ≡ 6
+  pub whole : length programme.steps ≡ length all_steps
   pub each : (j : ℕ) (list : StepList) → slice_get programme.steps j ≡ Some list → step_number list.kind ≡ j
 
 -- Those whom the first steps of a programme show have its seats, under their steps, and all others have what they had.

@@ -6,12 +6,12 @@ ghost use Rattle.seat_matrix.specs.Seats.{of_step};
 ghost use Rattle.seat_matrix.specs.Unfilled.{left_unfilled};
 ghost use Rattle.dereserve.specs.Unfilled.{AreHeld, held_at};
 
-use office_base::{CATEGORY_STEPS, ProgId, gives_up, step_number};
+use office_base::{CATEGORY_STEPS, OWN_COUNT, ProgId, gives_up, step_number};
 use seat_matrix::{Matrix, Seatings};
 
-/// Returns how many seats are left to the de-reserved step, at most 16,000. `held` has the numbers of persons whom the steps
+/// Returns how many seats are left to the de-reserved step, at most 8,000. `held` has the numbers of persons whom the steps
 /// with seats of their own admitted, by the number of the step, each at most the seats of its step.
-pub fn left_unfilled(version: u8, seats: &Seatings, held: &[u16; 5]) -> u32
+pub fn left_unfilled(version: u8, seats: &Seatings, held: &[u16; OWN_COUNT]) -> u32
     requires version { IsVersion version }
     requires held { AreHeld (λ step. (of_step seats.now step).seats) held.now }
     ensures { result ≡ left_unfilled version (λ step. (of_step seats.now step).seats)
@@ -27,10 +27,10 @@ pub fn left_unfilled(version: u8, seats: &Seatings, held: &[u16; 5]) -> u32
     empty
 }
 
-/// Returns how many seats of a programme are left to the de-reserved step, at most 16,000. `held` has the numbers of persons
+/// Returns how many seats of a programme are left to the de-reserved step, at most 8,000. `held` has the numbers of persons
 /// whom the steps with seats of their own admitted, by the number of the step, each at most the seats of its step. The
 /// version is that of the bundle: `CATEGORY_STEPS` says which categories give their empty seats away in it.
-pub fn unfilled(matrix: &Matrix, prog: ProgId, version: u8, held: &[u16; 5]) -> u32
+pub fn unfilled(matrix: &Matrix, prog: ProgId, version: u8, held: &[u16; OWN_COUNT]) -> u32
     requires programme { prog.0 < length matrix.now.programmes }
     requires version { IsVersion version }
     requires held { AreHeld (λ step. (seating_in matrix.now prog.0 step).seats) held.now }

@@ -17,7 +17,7 @@ use Rattle.office_base.specs.declared.step.Protections.{Protections}
 use Rattle.office_base.specs.declared.step.StepKind.{StepKind}
 use Rattle.office_base.specs.declared.step.StepKind.TheVariants.{Open, Dereserved}
 use Rattle.office_base.proofs.Lists.{at_among}
-use Rattle.office_base.proofs.StepNumbers.{below_six, one_number}
+use Rattle.office_base.proofs.StepNumbers.{below_all, one_number}
 use Rattle.placements.proofs.Filters.{filter-sublist}
 use Rattle.placements.proofs.Ranks.{ranked_sublist}
 use Rattle.placements.proofs.Sublists.{sublist_again}
@@ -126,7 +126,7 @@ module _ (version : ℕ) (seats : ProgrammeSeats) (people : List Person) (progra
     ]
   ]
 
-  pub before_last : Sound Open → IsCategoryFault version seats people programme None → (other : StepKind) → step_number other < 5 → Sound other
+  pub before_last : Sound Open → IsCategoryFault version seats people programme None → (other : StepKind) → step_number other < step_number Dereserved → Sound other
   before_last first each other less =
       by_view other (λ _. first) (λ row here _. each row here) (λ last. absurd (let same = ap step_number last in omega (arith, same, less)))
 
@@ -135,7 +135,7 @@ module _ (version : ℕ) (seats : ProgrammeSeats) (people : List Person) (progra
   category_first fault first found = record {
     kind = found.0.step;
     before = λ other less. by_view other (λ _. first) (λ row here same. found.2 row here (subst (λ kind. step_number kind < step_number found.0.step) same less))
-        (λ last. absurd (let same = ap step_number last in let most = below_six found.0.step in omega (arith, same, less, most)));
+        (λ last. absurd (let same = ap step_number last in let most = below_all found.0.step in omega (arith, same, less, most)));
     here = found.3;
   }
 

@@ -343,16 +343,16 @@ list-lines' table people text read rising is =
       later = steps-write people read.round read.prog.0 step_kinds [] read.programme.steps rising is.steps;
     }
 
--- six steps are read
+-- a list is read for each step
 lists-length : (people : List Person) (kinds : List StepKind) (lists : List StepList) → AreStepLists people kinds lists → length lists ≡ length kinds
 lists-length people [] [] are = refl
 lists-length people [] (list ∷ lists) are = absurd are
 lists-length people (kind ∷ kinds) [] are = absurd are
 lists-length people (kind ∷ kinds) (list ∷ lists) are = ap suc (lists-length people kinds lists are.1)
 
-pub six-read : (table : SeatTable) (people : List Person) (text : List ℕ) (number prog : ℕ) (steps : List StepList) → lines_text table people text (number, prog, steps) → length steps ≡ 6
+pub every-read : (table : SeatTable) (people : List Person) (text : List ℕ) (number prog : ℕ) (steps : List StepList) → lines_text table people text (number, prog, steps) → length steps ≡ length step_kinds
 unfolding read_of
-six-read table people text number prog steps is = lists-length people step_kinds steps (lines-list table people text (number, prog, steps) is).steps
+every-read table people text number prog steps is = lists-length people step_kinds steps (lines-list table people text (number, prog, steps) is).steps
 
 pub list-fault : (table : SeatTable) (people : List Person) → AreRising people → (text : List ℕ) (fault : TextFault) → IsTextFault (lines_text table people) text fault → IsTextFault (IsListText table people) text fault
 list-fault table people rising text fault is =

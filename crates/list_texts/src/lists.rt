@@ -7,7 +7,7 @@ ghost use Rattle.list_texts.specs.Listing.{IsListText, step_kinds};
 
 use crate::list_reader::ListReader;
 use crate::list_stage::ListStage;
-use office_base::{ALL_STEPS, Pairs, People, ProgId};
+use office_base::{ALL_STEPS, Pairs, People, ProgId, STEP_COUNT};
 use programme_lists::{Programme, StepList};
 use rank_lists::Register;
 use season_file::Season;
@@ -42,7 +42,7 @@ pub fn read_list(alloc: Global, season: &Season, text: &[u8]) -> Result<ListRead
         Ok(()) => Ok(ListRead {
             round: reader.number,
             prog: reader.prog,
-            programme: six_steps(reader.steps),
+            programme: programme_of(reader.steps),
         }),
         Err(fault) => Err(fault),
     }
@@ -84,13 +84,13 @@ fn are_known(matrix: &Matrix, register: &Register)
     let _ = register.people();
 }
 
-/// Returns the programme of six lists.
-fn six_steps(steps: Vec<StepList>) -> Programme
-    requires { length steps.items ≡ 6 }
+/// Returns the programme of a list for each step.
+fn programme_of(steps: Vec<StepList>) -> Programme
+    requires { length steps.items ≡ length step_kinds }
     ensures { result.steps ≡ steps.items }
 {
-    match <[StepList; 6]>::try_from(steps) {
+    match <[StepList; STEP_COUNT]>::try_from(steps) {
         Ok(steps) => Programme { steps },
-        Err(_) => unreachable!("six lists were read"),
+        Err(_) => unreachable!("a list was read for each step"),
     }
 }

@@ -1,5 +1,5 @@
 -- Sums over the steps of a programme, and the seats of all programmes, one programme after another.
-use Rattle.std.proofs.Common.{◌≡◌, ◌<◌, ◌≤◌, ◌+◌, ◌*◌, ◌-◌, ◌==◌, ◌&&◌, inl, inr, ℕ, zero, suc, Bool, true, false, List, [], ◌∷◌, Some, length, get_or, take, arith, refl, sym, ap, subst, ◌∙◌, if◌then◌else◌}
+use Rattle.std.proofs.Common.{◌≡◌, ◌<◌, ◌≤◌, ◌+◌, ◌*◌, ◌-◌, ◌==◌, ◌&&◌, inl, inr, ℕ, zero, suc, Bool, true, false, List, [], ◌∷◌, Some, length, get_or, take, arith, refl, sym, ap, subst, if◌then◌else◌}
 use Rattle.std.specs.Prelude.{slice_get, slice_index_or, sum_by}
 use Rattle.std.proofs.lemmas.Bool.{cases_Bool, cases_eq, eq-eqb, ne_eqb}
 use Rattle.std.proofs.lemmas.List.Sums.{get_or-le-sum_by, sum_by-cons, sum_by-le}
@@ -10,7 +10,7 @@ use Rattle.office_base.specs.Lists.{IsAmong}
 use Rattle.office_base.specs.StepNumbers.{step_number}
 use Rattle.office_base.specs.declared.category_steps.CategoryStep.{CategoryStep}
 use Rattle.office_base.specs.declared.step.StepKind.{StepKind}
-use Rattle.office_base.proofs.StepNumbers.{below_six, number_at, one_number, own_at, own_number_at}
+use Rattle.office_base.proofs.StepNumbers.{below_all, number_at, one_number, own_at, own_number_at}
 use Rattle.seat_matrix.specs.Matrix.{AreSeats, SeatTable}
 use Rattle.seat_matrix.specs.Seats.{AreProgrammeSeats, is_dereserved, no_seating, no_seatings, of_step}
 use Rattle.seat_matrix.specs.declared.seats.ProgrammeSeats.{ProgrammeSeats}
@@ -63,7 +63,7 @@ own_term f g step own agree = one_term f g step 0 own_steps (λ i kind at. omega
 
 -- of all steps
 pub any_term : (f g : StepKind → ℕ) (step : StepKind) → ((kind : StepKind) → (kind ≡ step → ⊥) → g kind ≡ f kind) → sum_by g all_steps + f step ≡ sum_by f all_steps + g step
-any_term f g step agree = one_term f g step 0 all_steps (λ i kind at. omega (arith, number_at i kind at)) (omega arith) (below_six step) agree
+any_term f g step agree = one_term f g step 0 all_steps (λ i kind at. omega (arith, number_at i kind at)) (omega arith) (below_all step) agree
 
 -- one more of a step is one more in all
 pub one_more : (step : StepKind) (b : Bool) (f : StepKind → ℕ) (all : ℕ) → all ≡ sum_by f all_steps

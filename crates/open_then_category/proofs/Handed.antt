@@ -1,5 +1,5 @@
 -- What the steps of the categories keep, by the numbers of the steps, and what comes of them when a person comes down to them.
-use Rattle.std.proofs.Common.{◌≡◌, ◌<◌, ◌+◌, ◌&&◌, ℕ, zero, suc, Bool, true, false, eqb, List, [], ◌∷◌, ◌++◌, drop, map, length, get_or, set, take, refl, sym, ap, ◌∙◌, subst, append-nil, arith}
+use Rattle.std.proofs.Common.{◌≡◌, ◌<◌, ◌+◌, ℕ, zero, suc, true, eqb, List, [], ◌∷◌, ◌++◌, drop, map, length, get_or, set, take, refl, sym, ap, ◌∙◌, subst, append-nil, arith}
 use Rattle.std.specs.Prelude.{Option, Some, slice_get}
 use Rattle.std.proofs.lemmas.Bool.{and_parts, eqb-true}
 use Rattle.std.proofs.lemmas.List.{drop-set-lt, drop_more, take_more_set}
@@ -11,9 +11,8 @@ use Rattle.office_base.specs.declared.person.Category.{Category}
 use Rattle.office_base.specs.declared.person.Person.{Person}
 use Rattle.office_base.specs.declared.step.StepKind.{StepKind}
 use Rattle.office_base.specs.declared.step.StepKind.TheVariants.{Dereserved}
-use Rattle.office_base.proofs.StepNumbers.{below_six, one_number}
+use Rattle.office_base.proofs.StepNumbers.{numbered}
 use Rattle.merit_choice.specs.State.{StepKept}
-use Rattle.seat_matrix.specs.Seats.{is_dereserved}
 use Rattle.seat_matrix.specs.declared.seats.ProgrammeSeats.{ProgrammeSeats}
 use Rattle.programme_lists.specs.Programme.{Admissions, is_of}
 use Rattle.open_then_category.specs.State.{AreHanded, AreNew, AreOffered, IsOffer, by_number, nobody, people_or_none, step_kept}
@@ -22,11 +21,6 @@ use Rattle.open_then_category.proofs.Rows.{steps_of}
 -- a thing is at the number of the step
 abbrev pub At : {X : Type 0} → List X → StepKind → X → Type 0
 At all kind x = slice_get all (step_number kind) ≡ Some x
-
--- the steps have the numbers from this one on
-abbrev numbered : ℕ → List StepKind → Bool
-numbered n [] = true
-numbered n (kind ∷ kinds) = eqb (step_number kind) n && numbered (suc n) kinds
 
 after_front : {X : Type 0} (front : List X) (x : X) (back : List X) → slice_get (front ++ x ∷ back) (length front) ≡ Some x
 after_front [] x back = refl
@@ -69,7 +63,7 @@ pub categories_at : {X : Type 0} (first : X) (xs : List X) → length xs ≡ len
 categories_at {X} first xs long = subst (λ (all : List X). AllZip (λ (row : CategoryStep) x. At (first ∷ all) row.step x) category_steps xs) (append-nil xs) (categories_before first xs [] long)
 
 -- and what comes next is at the number of the de-reserved step
-pub last_at : {X : Type 0} (first : X) (xs : List X) (last : X) → length xs ≡ length category_steps → slice_get (first ∷ xs ++ last ∷ []) 5 ≡ Some last
+pub last_at : {X : Type 0} (first : X) (xs : List X) (last : X) → length xs ≡ length category_steps → slice_get (first ∷ xs ++ last ∷ []) (step_number Dereserved) ≡ Some last
 last_at first xs last long = subst (λ n. slice_get (first ∷ xs ++ last ∷ []) n ≡ Some last) (ap suc long) (after_front (first ∷ xs) last [])
 
 -- lists of people in the order of the steps are those of their numbers
@@ -91,15 +85,6 @@ nobody_is = λ i kind. by all_steps (step_number kind) i
     by [] n = refl
     by (kind ∷ kinds) zero = refl
     by (kind ∷ kinds) (suc n) = by kinds n
-
--- the numbers of the steps with seats of their own
-pub own_below : (kind : StepKind) → is_dereserved kind ≡ false → step_number kind < 5
-own_below kind own =
-    let six = below_six kind in
-    let other : step_number kind ≡ 5 → ⊥ = λ five. (
-    let last : is_dereserved Dereserved ≡ false = subst (λ k. is_dereserved k ≡ false) (one_number kind Dereserved five) own in cc last
-    ) in
-    omega (arith, six, other)
 
 -- the number that is at a place of a list of sizes is the size of whom the step there holds
 pub size_at : (steps : List StepKept) (back : List (List Person)) (n : ℕ) → n < length steps

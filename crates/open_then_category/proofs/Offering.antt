@@ -18,6 +18,7 @@ use Rattle.placements.specs.Ranks.{AreDistinct}
 use Rattle.merit_choice.specs.State.{StepKept}
 use Rattle.seat_matrix.specs.Seats.{is_dereserved, of_step, seats_of}
 use Rattle.seat_matrix.specs.Unfilled.{left_unfilled}
+use Rattle.seat_matrix.proofs.SeatsLemmas.{own_number}
 use Rattle.dereserve.specs.Unfilled.{AreHeld, held_at}
 use Rattle.programme_lists.specs.Chosen.{AreApplicants, ChoosesFrom, IsWith, everybody}
 use Rattle.programme_lists.specs.Programme.{Admissions, unfilled}
@@ -25,7 +26,7 @@ use Rattle.programme_lists.proofs.Table.{row_facts}
 use Rattle.open_then_category.specs.Laws.{Resumes}
 use Rattle.open_then_category.specs.State.{AreHanded, AreNew, AreOffered, IsLastOffer, IsOffer, IsOffered, IsStateKept, LeavesOut, OffersKeepChoices, OffersLeaveOne, ProgrammeKept, admissions_of, by_number, categories_kept, people_held, people_or_none, step_kept}
 use Rattle.open_then_category.specs.StepLaws.{AreLawful}
-use Rattle.open_then_category.proofs.Handed.{At, categories_before, handed_kept, handed_length, handed_offered, last_at, own_below, size_at}
+use Rattle.open_then_category.proofs.Handed.{At, categories_before, handed_kept, handed_length, handed_offered, last_at, size_at}
 use Rattle.open_then_category.proofs.Leaving.{count}
 use Rattle.open_then_category.proofs.Keeping.{few_last, last_ranked, new_last, new_open, new_rows, own_few, settled}
 use Rattle.open_then_category.proofs.ProgrammeLaws.{given}
@@ -113,7 +114,7 @@ module _ (laws : AreLawful) (state now : ProgrammeKept) (person : Person) (o : S
       module _ (held : List ℕ) (sizes : held ≡ map (λ (step : StepKept). length step.held) (o_new ∷ news)) where
         held_is : (last : List Person) (kind : StepKind) → is_dereserved kind ≡ false → held_at held kind ≡ length (after last kind)
         held_is last kind own =
-            let below = own_below kind own in
+            let below = own_number kind own in
             ap (λ (ns : List ℕ). get_or ns (step_number kind) 0) sizes ∙ size_at (o_new ∷ news) (last ∷ []) (step_number kind) (omega (arith, long, below))
 
         -- no step holds more than its seats

@@ -17,8 +17,8 @@ use crate::filters::{left_over, members, without};
 use dereserve::{commons, fill, left_unfilled};
 use merit_choice::{choose, in_merit_order};
 use office_base::{
-    CATEGORY_STEPS, CategoryStep, ListId, OutOfMemory, People, Person, ProgId, Protections, Step,
-    StepKind,
+    CATEGORY_COUNT, CATEGORY_STEPS, CategoryStep, ListId, OutOfMemory, People, Person, ProgId,
+    Protections, Step, StepKind,
 };
 use programme_lists::{Programme, StepList};
 use seat_matrix::{Matrix, ProgrammeSeats, Seating};
@@ -132,7 +132,7 @@ fn category_steps(
     alloc: Global,
     seats: &ProgrammeSeats,
     rest: &[Person],
-) -> Result<[StepList; 4], OutOfMemory>
+) -> Result<[StepList; CATEGORY_COUNT], OutOfMemory>
     requires seats { AreProgrammeSeats seats.now }
     requires ranked { AreRanked seats.now.list rest.now }
     requires few { length rest.now ≤ 4294967295 }
@@ -147,7 +147,12 @@ fn category_steps(
 }
 
 /// How many seats the categories leave to the de-reserved step.
-fn empty_seats(version: u8, seats: &ProgrammeSeats, first: &StepList, lists: &[StepList; 4]) -> u32
+fn empty_seats(
+    version: u8,
+    seats: &ProgrammeSeats,
+    first: &StepList,
+    lists: &[StepList; CATEGORY_COUNT],
+) -> u32
     requires version { IsVersion version }
     requires seats { AreProgrammeSeats seats.now }
     requires first { length first.now.admitted ≤ (seats_of seats.now OpenStep).seats }
@@ -171,7 +176,7 @@ fn last_step(
     seats: &ProgrammeSeats,
     rest: &[Person],
     first: &StepList,
-    lists: &[StepList; 4],
+    lists: &[StepList; CATEGORY_COUNT],
 ) -> Result<StepList, OutOfMemory>
     requires version { IsVersion version }
     requires seats { AreProgrammeSeats seats.now }
@@ -187,7 +192,11 @@ fn last_step(
 }
 
 /// The lists of a programme, in the order of the steps.
-pub(crate) fn programme_of(first: StepList, lists: [StepList; 4], last: StepList) -> Programme
+pub(crate) fn programme_of(
+    first: StepList,
+    lists: [StepList; CATEGORY_COUNT],
+    last: StepList,
+) -> Programme
     ensures { result.steps ≡ first ∷ lists ++ last ∷ [] }
 {
     let [second, third, fourth, fifth] = lists;

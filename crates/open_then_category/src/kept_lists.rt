@@ -20,8 +20,8 @@ use crate::laws::step_laws;
 use crate::state::ProgrammeState;
 use dereserve::{is_common, left_unfilled};
 use office_base::{
-    CATEGORY_STEPS, Category, CategoryStep, ListId, OutOfMemory, People, Person, Protections,
-    StepKind,
+    CATEGORY_COUNT, CATEGORY_STEPS, Category, CategoryStep, ListId, OWN_COUNT, OutOfMemory, People,
+    Person, Protections, StepKind,
 };
 use programme_lists::{Programme, StepList};
 use slot_cert::{Cert, canonical_pairs};
@@ -34,7 +34,7 @@ pub struct Tried {
     pub list: ListId,
     pub common: u32,
     /// By the rows of the categories.
-    pub members: [u32; 4],
+    pub members: [u32; CATEGORY_COUNT],
 }
 
 impl Tried {
@@ -45,7 +45,7 @@ impl Tried {
         Tried {
             list,
             common: 0,
-            members: [0; 4],
+            members: [0; CATEGORY_COUNT],
         }
     }
 
@@ -64,7 +64,11 @@ impl Tried {
 }
 
 /// The person is counted for each row whose category the person is of.
-fn count_member(rows: &[CategoryStep; 4], members: &mut [u32; 4], person: &Person)
+fn count_member(
+    rows: &[CategoryStep; CATEGORY_COUNT],
+    members: &mut [u32; CATEGORY_COUNT],
+    person: &Person,
+)
     requires { AllByRecursion (λ count. count < 4294967295) members.old }
     ensures { members.new ≡ with_member person.now rows.now members.old }
 {
@@ -178,8 +182,8 @@ fn category_list(
 fn category_lists(
     alloc: Global,
     state: &ProgrammeState,
-    members: &[u32; 4],
-) -> Result<[StepList; 4], OutOfMemory>
+    members: &[u32; CATEGORY_COUNT],
+) -> Result<[StepList; CATEGORY_COUNT], OutOfMemory>
     requires { AreCounted state.now category_steps members.now }
     ensures { IfOk result (ShowCategories state.now category_steps members.now) }
 {
@@ -212,7 +216,7 @@ fn count_held(state: &ProgrammeState, kind: StepKind) -> u16
 }
 
 /// How many each of the steps with seats of its own admits, by the number of the step.
-fn count_all_held(state: &ProgrammeState) -> [u16; 5]
+fn count_all_held(state: &ProgrammeState) -> [u16; OWN_COUNT]
     requires { IsProgrammeKept state.now }
     ensures { result ≡ map (λ kind. length (admissions_of state.now kind)) own_steps }
 {

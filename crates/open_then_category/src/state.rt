@@ -18,8 +18,8 @@ use crate::laws::{offers_keep_choices, offers_leave_one, resumes, step_laws};
 use dereserve::{is_common, left_unfilled};
 use merit_choice::{Offered, StepState, put_in_order};
 use office_base::{
-    CATEGORY_STEPS, Category, CategoryStep, ListId, OutOfMemory, Person, ProgId, StepKind, Steps,
-    step_number,
+    CATEGORY_COUNT, CATEGORY_STEPS, Category, CategoryStep, ListId, OWN_COUNT, OutOfMemory, Person,
+    ProgId, StepKind, Steps, step_number,
 };
 use seat_matrix::{Matrix, ProgrammeSeats};
 use std::alloc::Global;
@@ -33,7 +33,7 @@ pub struct ProgrammeState {
     seats: ProgrammeSeats,
     open_step: StepState,
     /// By the rows of the categories.
-    categories: [StepState; 4],
+    categories: [StepState; CATEGORY_COUNT],
     dereserved: Vec<Person>,
 }
 
@@ -63,7 +63,7 @@ impl ProgrammeState {
     {
         step_laws();
         let seats = matrix.programme(prog);
-        let most = left_unfilled(version, &seats.steps, &[0; 5]);
+        let most = left_unfilled(version, &seats.steps, &[0; OWN_COUNT]);
         let dereserved = Vec::with_capacity(alloc, most as usize + 1)?;
         let open_step = step_state(alloc, &seats, StepKind::Open)?;
         let categories = category_states(alloc, &seats)?;
@@ -141,7 +141,10 @@ impl ProgrammeState {
 }
 
 /// The steps of the categories of a programme, which hold nobody, in the order of their rows.
-fn category_states(alloc: Global, seats: &ProgrammeSeats) -> Result<[StepState; 4], OutOfMemory>
+fn category_states(
+    alloc: Global,
+    seats: &ProgrammeSeats,
+) -> Result<[StepState; CATEGORY_COUNT], OutOfMemory>
     requires { AreProgrammeSeats seats.now }
     ensures { IfOk result (λ states. states ≡ categories_kept seats.now nobody) }
 {
@@ -175,7 +178,10 @@ fn held_by(step: &StepState) -> u16
 }
 
 /// How many each of the steps with seats of its own holds, by the number of the step.
-fn held_by_steps(open_step: &StepState, categories: &[StepState; 4]) -> [u16; 5]
+fn held_by_steps(
+    open_step: &StepState,
+    categories: &[StepState; CATEGORY_COUNT],
+) -> [u16; OWN_COUNT]
     requires open { open_step.now.seats ≤ most_step_seats }
     requires categories { AllByRecursion (λ step. step.seats ≤ most_step_seats) categories.now }
     ensures { result ≡ length open_step.now.held ∷ map (λ step. length step.held) categories.now }
@@ -222,8 +228,8 @@ fn hand_member(step: &mut StepState, category: Category, coming: Option<Person>)
 /// Offers the person who comes to the steps of these rows in their order: who is left out by one continues to the next.
 /// Returns who continues after the last.
 fn hand_down(
-    rows: &[CategoryStep; 4],
-    categories: &mut [StepState; 4],
+    rows: &[CategoryStep; CATEGORY_COUNT],
+    categories: &mut [StepState; CATEGORY_COUNT],
     coming: Option<Person>,
 ) -> Option<Person>
     requires { AreNew rows.now categories.old coming }

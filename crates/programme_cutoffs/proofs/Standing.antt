@@ -1,6 +1,5 @@
 -- Who stands for which step of a programme, and that each step chooses from these.
 use Rattle.std.proofs.Common.{◌≡◌, ◌∙◌, ℕ, ◌≤◌, ◌<◌, List, [], ◌∷◌, Option, Some, None, false, arith, refl, sym, ap, subst, inl, inr}
-use Rattle.std.proofs.lemmas.Bool.{eqb-false}
 use Rattle.std.specs.Prelude.{sum}
 use Rattle.office_base.specs.CategorySteps.{own_steps, row_of}
 use Rattle.office_base.specs.Lists.{IsAmong, IsSublist}
@@ -12,16 +11,15 @@ use Rattle.office_base.specs.declared.category_steps.CategoryStep.{CategoryStep}
 use Rattle.office_base.specs.declared.person.Person.{Person}
 use Rattle.office_base.specs.declared.step.StepKind.{StepKind}
 use Rattle.office_base.specs.declared.step.StepKind.TheVariants.{Open, Dereserved}
-use Rattle.office_base.proofs.Lists.{at_among}
-use Rattle.office_base.proofs.StepNumbers.{below_six, own_at}
 use Rattle.placements.specs.Ranks.{AreAmong, AreDistinct}
 use Rattle.placements.proofs.Filters.{among_filter, among_filter_from, filter-sublist}
 use Rattle.placements.proofs.Ranks.{among_again, among_itself, among_sublist, ranked_sublist}
-use Rattle.placements.proofs.Sublists.{IsSublist-nil, IsSublist-same, sublist_again}
+use Rattle.placements.proofs.Sublists.{sublist_again}
 use Rattle.merit_choice.specs.State.{IsStepKept}
 use Rattle.merit_choice.proofs.InMerit.{in_merit_ranks}
 use Rattle.seat_matrix.specs.Seats.{AreProgrammeSeats, is_dereserved, seats_of}
 use Rattle.seat_matrix.specs.declared.seats.ProgrammeSeats.{ProgrammeSeats}
+use Rattle.seat_matrix.proofs.SeatsLemmas.{own_number}
 use Rattle.programme_lists.specs.Listing.{seats_filled}
 use Rattle.programme_lists.specs.Programme.{Admissions, IsProgrammeChoice, admitted_by, is_of, is_same, left_by, left_over, members_by, people_of, without}
 use Rattle.programme_lists.proofs.Categories.{same_itself}
@@ -74,7 +72,7 @@ members_from (Some row) people person there of = among_filter_from (is_of row.ca
 
 -- a step with seats of its own is one of those before the last
 pub below_last : (kind : StepKind) → is_dereserved kind ≡ false → step_number kind < step_number Dereserved
-below_last kind own = let most = below_six kind in let other = eqb-false (step_number kind) 5 own in omega (arith, most, other)
+below_last kind own = own_number kind own
 
 -- no step took the person whose people the step does not see
 abbrev pub IsNotTaken : Admissions → StepKind → Person → Type 0

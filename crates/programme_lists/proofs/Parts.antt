@@ -1,6 +1,5 @@
 -- The people of a step as a part of the applicants, and which steps are among all.
-use Rattle.std.proofs.Common.{◌≡◌, false, List, [], ◌∷◌, Option, Some, None, refl, arith}
-use Rattle.std.proofs.lemmas.Bool.{eqb-false}
+use Rattle.std.proofs.Common.{◌≡◌, false, List, [], ◌∷◌, Option, Some, None, refl}
 use Rattle.office_base.specs.CategorySteps.{all_steps, own_steps, row_of}
 use Rattle.office_base.specs.Lists.{IsAmong, IsSublist}
 use Rattle.office_base.specs.Person.{is_common}
@@ -11,10 +10,11 @@ use Rattle.office_base.specs.declared.person.Person.{Person}
 use Rattle.office_base.specs.declared.step.StepKind.{StepKind}
 use Rattle.office_base.specs.declared.step.StepKind.TheVariants.{Open, Dereserved}
 use Rattle.office_base.proofs.Lists.{at_among}
-use Rattle.office_base.proofs.StepNumbers.{below_six, kind_at, own_at}
+use Rattle.office_base.proofs.StepNumbers.{kind_at, own_at}
 use Rattle.placements.proofs.Filters.{filter-sublist}
 use Rattle.placements.proofs.Sublists.{IsSublist-nil, IsSublist-same, sublist_again}
 use Rattle.seat_matrix.specs.Seats.{is_dereserved}
+use Rattle.seat_matrix.proofs.SeatsLemmas.{own_number}
 use Rattle.programme_lists.specs.Programme.{Admissions, is_of, left_by, left_over, members_by, people_of, without}
 
 -- ---- the steps
@@ -25,7 +25,7 @@ any_step kind = at_among all_steps (step_number kind) kind (kind_at kind)
 
 -- each step with seats of its own is one of those
 pub own_among : (kind : StepKind) → is_dereserved kind ≡ false → IsAmong kind own_steps
-own_among kind own = at_among own_steps (step_number kind) kind (own_at kind (omega (arith, below_six kind, eqb-false (step_number kind) 5 own)))
+own_among kind own = at_among own_steps (step_number kind) kind (own_at kind (own_number kind own))
 
 -- the admissions of the steps with seats of their own
 abbrev pub by_own : Admissions → Admissions

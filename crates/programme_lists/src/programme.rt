@@ -1,7 +1,7 @@
 // The lists of a programme's steps.
 ghost use Rattle.std.specs.Prelude.{◌≡◌, IfOk};
 
-use office_base::{OutOfMemory, People, StepKind};
+use office_base::{OutOfMemory, People, STEP_COUNT, StepKind};
 use slot_cert::Cert;
 use std::alloc::Global;
 
@@ -19,7 +19,7 @@ pub struct StepList {
 /// Holds the lists of a programme, in the order of its steps.
 #[derive(Debug, Drop)]
 pub struct Programme {
-    pub steps: [StepList; 6],
+    pub steps: [StepList; STEP_COUNT],
 }
 
 impl StepList {

@@ -19,6 +19,7 @@ use Rattle.office_base.specs.Codes.{is_code}
 use Rattle.office_base.specs.Limits.{most_matrix_seats, most_programmes, most_step_seats}
 use Rattle.office_base.specs.Person.{IsList}
 use Rattle.office_base.specs.declared.step.StepKind.{StepKind}
+use Rattle.office_base.specs.declared.step.StepKind.TheVariants.{Dereserved}
 use Rattle.seat_matrix.proofs.Codes.{Distinct, code_apart, codes-distinct}
 use Rattle.office_text.specs.Number.{number_within}
 use Rattle.office_text.specs.Names.{code_of, step_of}
@@ -27,7 +28,7 @@ use Rattle.section_rows.specs.Steps.{after, needs, unless}
 use Rattle.section_rows.proofs.StepsLemmas.{after_ok, flip, found_cases, needs_ok, number_found, step, then_found, unless_ok, within_range}
 use Rattle.office_base.specs.StepNumbers.{step_number}
 use Rattle.office_base.proofs.Options.{none_from}
-use Rattle.office_base.proofs.StepNumbers.{below_six, one_number, own_at}
+use Rattle.office_base.proofs.StepNumbers.{below_all, one_number, own_at}
 use Rattle.seat_matrix.specs.Fields.{count_of, protections_of, seating_of}
 use Rattle.seat_matrix.specs.Laws.{OneStepChanges}
 use Rattle.seat_matrix.specs.Matrix.{AreEntries, AreSeats, IsMatrix, SeatTable, all_seats, codes_after, codes_in, codes_of, find_home, first_list, given, home_at, matrix_with, new_row, reading, seating_at, seating_in, seatings_in, seats_after, settles, steps_in, with_code}
@@ -225,9 +226,9 @@ given_seated entries sound code step = by (seating_at code step entries) refl
 cases_number : (a b : ℕ) → (a ≡ b) ⊎ (a ≢ b)
 cases_number a b = cases_eq a b
 
--- a step with seats of its own is one of five
-pub own_number : (step : StepKind) → is_dereserved step ≡ false → step_number step < 5
-own_number step own = omega (arith, below_six step, eqb-false (step_number step) 5 own)
+-- the number of a step with seats of its own is below their count
+pub own_number : (step : StepKind) → is_dereserved step ≡ false → step_number step < length own_steps
+own_number step own = omega (arith, below_all step, eqb-false (step_number step) (step_number Dereserved) own)
 
 -- what a list that is made for each step with seats of its own has for a step
 pub made_at : (f : StepKind → Seating) (step : StepKind) → is_dereserved step ≡ false → of_step (record { own = map f own_steps }) step ≡ f step

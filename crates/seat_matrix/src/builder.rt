@@ -14,7 +14,7 @@ use crate::matrix::Matrix;
 use crate::seats::{Seating, Seatings};
 use indexmap::IndexMap;
 use office_base::limits::{MOST_MATRIX_SEATS, MOST_PROGRAMMES};
-use office_base::{Code, ListId, OutOfMemory, StepKind, step_number};
+use office_base::{Code, ListId, OWN_STEPS, OutOfMemory, StepKind, step_number};
 use office_text::{read_number, read_step};
 use section_rows::{Rows, TableBuilder};
 use std::alloc::Global;
@@ -156,13 +156,7 @@ impl MatrixBuilder {
             → result ≡ seatings_in entries code }
     {
         Seatings {
-            own: [
-                self.seating(code, StepKind::Open),
-                self.seating(code, StepKind::Ews),
-                self.seating(code, StepKind::Obc),
-                self.seating(code, StepKind::Sc),
-                self.seating(code, StepKind::St),
-            ],
+            own: OWN_STEPS.map(|step| self.seating(code, step)),
         }
     }
 

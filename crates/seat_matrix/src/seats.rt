@@ -2,7 +2,7 @@
 ghost use Rattle.std.specs.Prelude.{◌≡◌};
 ghost use Rattle.seat_matrix.specs.Seats.{no_seating, of_step, seats_of, with_seating};
 
-use office_base::{ListId, Protections, StepKind, step_number};
+use office_base::{ListId, OWN_COUNT, Protections, StepKind, step_number};
 
 /// The seats of one step, at most 4,000, and how many of them are protected for each trait. The protected positions are
 /// among the seats.
@@ -16,7 +16,7 @@ pub struct Seating {
 /// row was given.
 #[derive(Clone, Copy, Debug, PartialEq, Eq)]
 pub struct Seatings {
-    pub own: [Seating; 5],
+    pub own: [Seating; OWN_COUNT],
 }
 
 /// All that a matrix has for one programme: its merit list, and the seats of its steps.

@@ -3,7 +3,7 @@ use Rattle.text_readers.specs.Reading.{Begins, IsTextFault}
 use Rattle.list_texts.specs.ListLines.{lines_text}
 use Rattle.list_texts.specs.ListReader.{AreRising, left_at, list_at}
 use Rattle.list_texts.proofs.FollowLemmas.{some-text}
-use Rattle.list_texts.proofs.ListTexts.{list-fault, read-list, six-read}
+use Rattle.list_texts.proofs.ListTexts.{list-fault, read-list, every-read}
 use Rattle.list_texts.proofs.lists.read_list.Goals as goal
 
 pub read_lines-requires-clause-some : goal.read_lines-requires-clause-some
@@ -17,8 +17,8 @@ read_lines-requires-clause-few c =
     let few = c.begin-reader.ensures.keeps.known.few in
     subst (λ st. left_at st (length r.register.now.people) r.kinds.now < 2 ^ 32 - 2) (sym c.begin-reader.ensures.stage) (omega (arith, few))
 
-pub six_steps-requires : goal.six_steps-requires
-six_steps-requires c =
+pub programme_of-requires : goal.programme_of-requires
+programme_of-requires c =
     let s = c.args.season.now in
     let r = c.begin-reader.result in
     let n = c.read_lines.new.lines in
@@ -26,7 +26,7 @@ six_steps-requires c =
     subst (λ st. list_at st r c.args.text.now (n.number, n.prog.0, n.steps.items)) c.begin-reader.ensures.stage c.in-Ok.ensures.value in
     let table = subst (λ z. lines_text z r.register.now.people c.args.text.now (n.number, n.prog.0, n.steps.items)) c.begin-reader.ensures.matrix head in
     let lines = subst (λ z. lines_text s.matrix z.people c.args.text.now (n.number, n.prog.0, n.steps.items)) c.begin-reader.ensures.register table in
-    six-read s.matrix s.register.people c.args.text.now n.number n.prog.0 n.steps.items lines
+    every-read s.matrix s.register.people c.args.text.now n.number n.prog.0 n.steps.items lines
 
 pub returns-in-Ok-clause-value : goal.returns-in-Ok-clause-value
 returns-in-Ok-clause-value c =
@@ -37,7 +37,7 @@ returns-in-Ok-clause-value c =
     subst (λ st. list_at st r c.args.text.now (n.number, n.prog.0, n.steps.items)) c.begin-reader.ensures.stage c.in-Ok.ensures.value in
     let table = subst (λ z. lines_text z r.register.now.people c.args.text.now (n.number, n.prog.0, n.steps.items)) c.begin-reader.ensures.matrix head in
     let lines = subst (λ z. lines_text s.matrix z.people c.args.text.now (n.number, n.prog.0, n.steps.items)) c.begin-reader.ensures.register table in
-    read-list s.matrix s.register.people c.args.text.now n.number n.prog n.steps.items c.six_steps.result c.six_steps.ensures lines
+    read-list s.matrix s.register.people c.args.text.now n.number n.prog n.steps.items c.programme_of.result c.programme_of.ensures lines
 
 pub returns-in-Err-clause-fault : goal.returns-in-Err-clause-fault
 returns-in-Err-clause-fault c = λ _.
