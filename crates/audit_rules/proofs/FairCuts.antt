@@ -32,9 +32,9 @@ use Rattle.office_moves.specs.Moves.{next_seek, next_seeks}
 use Rattle.office_moves.specs.Promise.{IsNoWorse}
 use Rattle.office_moves.specs.Raised.{matrix_at}
 use Rattle.office_moves.specs.State.{State, last_seat, seat_of, standing_at, view_of}
-use Rattle.histories.proofs.Entering.{entrants, list_there, lists_full, own_there}
-use Rattle.histories.proofs.Fits.{seat_at_place, the_prog}
-use Rattle.histories.proofs.Falls.{left_kept}
+use Rattle.history_laws.proofs.Entering.{entrants, list_there, lists_full, own_there}
+use Rattle.history_laws.proofs.Fits.{seat_at_place, the_prog}
+use Rattle.history_laws.proofs.Falls.{left_kept}
 use Rattle.audit_rules.specs.Cut.{CutHolds, applicants_at, is_named, lists_at, seat_given, seekers_at, sought_by}
 use Rattle.audit_rules.specs.Fair.{IsFairCut}
 use Rattle.audit_rules.specs.InOrder.{IsInOrder}

@@ -20,7 +20,7 @@ use Rattle.office_moves.specs.declared.decide.Decision.{Decision}
 use Rattle.office_moves.specs.declared.decide.Decision.TheVariants.{CutAgain, Publish, Finish}
 use Rattle.office_moves.specs.declared.moves.Act.{Act}
 use Rattle.office_moves.specs.declared.refusal.Refusal.TheVariants.{Ahead, Denied}
-use Rattle.histories.proofs.Changes.{Accepts, LastCut, NewAnswer, NewCut, NewRaise, accepts}
+use Rattle.history_laws.proofs.Changes.{Accepts, LastCut, NewAnswer, NewCut, NewRaise, accepts}
 use Rattle.audit_rules.specs.Cut.{CutHolds, EndHolds, HoldsAt}
 use Rattle.audit_rules.specs.Fair.{cut_by, cuts_of}
 use Rattle.audit_rules.specs.InOrder.{IsInOrder}

@@ -4,13 +4,13 @@ mod FairSeasons
 mod OneVerdict
 pub mod Ordering
 mod Taken
-pub mod Along
+pub mod RegisterLists
 mod Ending
 mod Grouping
-pub mod Lifting
+pub mod TakenRaises
 mod Listing
 mod Missing
-pub mod Noting
+pub mod NotedAnswers
 mod Seeking
-pub mod Stood
-pub mod Telling
+pub mod NextStandings
+pub mod SeatsOfRows

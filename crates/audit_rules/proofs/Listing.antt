@@ -30,7 +30,7 @@ use Rattle.audit_rules.specs.declared.entries.Entry.{Entry}
 use Rattle.audit_rules.specs.declared.stand.Stand.{Stand}
 use Rattle.seat_matrix.specs.Matrix.{SeatTable}
 use Rattle.audit_rules.specs.declared.unlisted.Miss.{Miss}
-use Rattle.audit_rules.proofs.Telling.{stands}
+use Rattle.audit_rules.proofs.SeatsOfRows.{stands}
 
 -- ---- entries
 

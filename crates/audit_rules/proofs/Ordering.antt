@@ -27,26 +27,26 @@ use Rattle.rounds.specs.declared.round.Round.{Round}
 use Rattle.round_laws.proofs.People.{stands_at}
 use Rattle.round_options.specs.Options.{after_cut, holds, may_follow, standing_of}
 use Rattle.round_options.specs.declared.standing.Standing.{Standing}
-use Rattle.office_moves.specs.Decided.{answer_looks, decided}
+use Rattle.office_moves.specs.Decided.{answer_facts, decided}
 use Rattle.office_moves.specs.Facts.{IsSound, SeasonFacts}
 use Rattle.office_moves.specs.History.{newly}
 use Rattle.office_moves.specs.Judge.{choice_of, is_gone, is_withdraw, judge_next_answer, refuse_if}
 use Rattle.office_moves.specs.Moves.{next_seek}
 use Rattle.office_moves.specs.Raised.{matrix_at, raised}
 use Rattle.office_moves.specs.State.{State, View, answered, in_window, last_seat, left_by, opening, round_at, rows_of, seat_in, seat_of, standing_at, view_of, with_finals, with_raise, with_round, with_row}
-use Rattle.office_moves.specs.declared.decide.AnswerLooks.{AnswerLooks}
+use Rattle.office_moves.specs.declared.decide.AnswerFacts.{AnswerFacts}
 use Rattle.office_moves.specs.declared.decide.Decision.{Decision}
 use Rattle.office_moves.specs.declared.decide.Decision.TheVariants.{Note, Lift, Publish, Finish}
 use Rattle.office_moves.specs.declared.moves.Act.{Act}
 use Rattle.office_moves.specs.declared.refusal.Refusal.{Refusal}
 use Rattle.office_moves.specs.declared.refusal.Refusal.TheVariants.{Gone, NoSeat, TooManyTurns, Widening}
 use Rattle.office_moves.proofs.Rising.{IsLift, raised_append, raised_well}
-use Rattle.histories.proofs.Changes.{Accepts, LastCut, NewAnswer, NewCut, NewRaise, accepts}
-use Rattle.histories.proofs.Entering.{own_there}
-use Rattle.histories.proofs.Fits.{held_over, seat_at_place, seat_of_some}
-use Rattle.histories.proofs.Rows.{answered_last, window_more, window_same}
-pub use Rattle.histories.proofs.Accepted.{is_open}
-pub use Rattle.histories.proofs.Raises.{was_lift}
+use Rattle.history_laws.proofs.Changes.{Accepts, LastCut, NewAnswer, NewCut, NewRaise, accepts}
+use Rattle.history_laws.proofs.Entering.{own_there}
+use Rattle.history_laws.proofs.Fits.{held_over, seat_at_place, seat_of_some}
+use Rattle.history_laws.proofs.Rows.{answered_last, window_more, window_same}
+pub use Rattle.history_laws.proofs.Accepted.{is_open}
+pub use Rattle.history_laws.proofs.Raises.{was_lift}
 use Rattle.audit_rules.specs.Cut.{CutHolds, HoldsAt, seat_given, sought_by}
 use Rattle.audit_rules.specs.InOrder.{IsInOrder}
 use Rattle.audit_rules.specs.Papers.{Papers, rows_after, seat_told, seats_told}
@@ -65,7 +65,7 @@ holder_has false Freeze e h = absurd (cc)
 holder_has false _ e h = absurd (cc)
 
 -- a candidate who keeps a seat by a noted answer has one
-noted_seated : (looks : AnswerLooks) (row : AnswerRow) → judge_next_answer looks row ≡ Note row → holds (standing_of row.choice) ≡ true → looks.seated ≡ true
+noted_seated : (looks : AnswerFacts) (row : AnswerRow) → judge_next_answer looks row ≡ Note row → holds (standing_of row.choice) ≡ true → looks.seated ≡ true
 noted_seated looks row e h =
     let none = next_tests (is_gone looks.standing) (not looks.seated && not (is_withdraw row.choice)) (not (may_follow looks.left row.choice)) (nat_lt most_turns row.turn && not (is_withdraw row.choice))
     (Gone looks.standing) NoSeat (Widening (choice_of looks.left)) TooManyTurns row e in
@@ -258,7 +258,7 @@ in_order_next law facts papers state request sound here holds' = go (newly state
     accepted : (act : Act) → Accepts facts state request.by request.ask act → IsInOrder facts (taken facts papers state (decided facts state request))
     accepted act (NewAnswer row asks is n decides) =
         let opened = (is_open state.now facts.rounds row.window n.opened).0 in
-        by_decision (Note row) decides (with_answer facts state row here opened (λ keeps. noted_seated (answer_looks facts (view_of state row.cand.0) row) row n.next keeps))
+        by_decision (Note row) decides (with_answer facts state row here opened (λ keeps. noted_seated (answer_facts facts (view_of state row.cand.0) row) row n.next keeps))
     accepted act (NewRaise row code asks found known is n decides) =
         by_decision (Lift row) decides (with_lift law facts state row here (was_lift facts state row (subst (λ z. row.prog.0 < length z) (sym here.programmes) found.below) n.next))
     accepted act (LastCut window asks is n last decides) = by_decision Finish decides (finished facts state (finals_of papers) here last)

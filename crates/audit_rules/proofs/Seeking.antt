@@ -29,7 +29,7 @@ use Rattle.office_moves.specs.Facts.{IsSound, SeasonFacts}
 use Rattle.office_moves.specs.Moves.{next_seek}
 use Rattle.office_moves.specs.Raised.{matrix_at}
 use Rattle.office_moves.specs.State.{State, with_round}
-use Rattle.histories.proofs.Entering.{own_there}
+use Rattle.history_laws.proofs.Entering.{own_there}
 use Rattle.audit_rules.specs.Cut.{ComesTo, CutBreaks, HasStayed, IsFirstWithout, IsSought, IsUnsound, IsUnsought, IsSoundList, OfEach, applicants_at, lists_at, seat_given, seekers_at, sought_by}
 use Rattle.audit_rules.specs.Papers.{lists_after, rows_after, seat_told}
 use Rattle.audit_rules.specs.Replay.{round_of}
@@ -40,8 +40,8 @@ use Rattle.audit_rules.specs.Comes.{AllListed, AreLists, HoldOn}
 use Rattle.audit_rules.specs.Groups.{AreGroups, picked}
 use Rattle.audit_rules.specs.Stands.{cut, seek_by, stand_of}
 use Rattle.audit_rules.specs.declared.stand.Stand.{Stand}
-use Rattle.audit_rules.proofs.Along.{read_at}
-use Rattle.audit_rules.proofs.Stood.{stand_cut}
+use Rattle.audit_rules.proofs.RegisterLists.{read_at}
+use Rattle.audit_rules.proofs.NextStandings.{stand_cut}
 use Rattle.audit_rules.proofs.Grouping.{Grouping, grouping_next, grouping_whole, picked_those}
 
 -- ---- lists

@@ -5,10 +5,10 @@ ghost use Rattle.audit_rules.specs.Raises.{lifts, may_have};
 use kept_rows::RaiseRow;
 use office_base::limits::{MOST_MATRIX_SEATS, MOST_STEP_SEATS};
 use office_base::{By, StepKind};
-use office_moves::RaiseLooks;
+use office_moves::RaiseFacts;
 
 /// Returns whether the step may have this many seats.
-fn may_have(looks: &RaiseLooks, row: RaiseRow) -> bool
+fn may_have(looks: &RaiseFacts, row: RaiseRow) -> bool
     requires few { looks.now.seats ≤ looks.now.total }
     requires all { looks.now.total ≤ 40000000 }
     ensures { result ≡ may_have looks.now row }
@@ -20,7 +20,7 @@ fn may_have(looks: &RaiseLooks, row: RaiseRow) -> bool
 }
 
 /// Returns whether the clerk raises seats anew, in the open window, before the last one. It takes no memory.
-pub fn lifts(looks: &RaiseLooks, by: By, row: RaiseRow) -> bool
+pub fn lifts(looks: &RaiseFacts, by: By, row: RaiseRow) -> bool
     requires few { looks.now.seats ≤ looks.now.total }
     requires all { looks.now.total ≤ 40000000 }
     ensures { result ≡ lifts looks.now by row }

@@ -4,7 +4,7 @@ use Rattle.std.proofs.Math.Seq.{take-append_seam}
 use Rattle.std.proofs.lemmas.List.{take-append-drop}
 use Rattle.text_readers.specs.Reading.{Grammar, HasNo}
 use Rattle.text_readers.proofs.PartsLemmas.{cut-one, has-one}
-use Rattle.dossier_file.specs.Texts.{AreOthers, IsCutAfter, IsEnded, IsEnding, IsLeast, IsUnending, joined}
+use Rattle.dossier_file.specs.Texts.{AreOthers, IsSplitAfter, IsEnded, IsEnding, IsLeast, IsUnending, joined}
 
 -- each text has its ending line once, as its last
 abbrev pub EndsOnce : {A : Type 0} → List ℕ → Grammar A → Type 0
@@ -91,9 +91,9 @@ passed_more ending bytes rest line later passed split clear other = record {
 }
 
 -- the ending line was met
-pub cut_met : (ending bytes rest line later piece last : List ℕ) (at : ℕ) → IsPassed ending bytes rest → rest ≡ line ++ 10 ∷ later → line ≡ ending → at ≡ length bytes - length later → piece ≡ take at bytes → last ≡ drop at bytes
-    → IsCutAfter ending bytes piece last
-cut_met ending bytes rest line later piece last at passed split same where_ front back =
+pub split_met : (ending bytes rest line later piece last : List ℕ) (at : ℕ) → IsPassed ending bytes rest → rest ≡ line ++ 10 ∷ later → line ≡ ending → at ≡ length bytes - length later → piece ≡ take at bytes → last ≡ drop at bytes
+    → IsSplitAfter ending bytes piece last
+split_met ending bytes rest line later piece last at passed split same where_ front back =
     let front_of = joined passed.lines ++ (line ++ 10 ∷ []) in
     let whole = line_split passed.lines bytes rest line later passed.whole split in
     let long : at ≡ length front_of = (let sum = ap length whole ∙ length-append front_of later in omega (arith, where_, sum)) in

@@ -26,7 +26,7 @@ use Rattle.text_readers.specs.Parts.{AreSpelled}
 use Rattle.text_readers.specs.Reading.{Begins, Grammar, IsFaultLine, first_lines}
 use Rattle.text_readers.proofs.KnownLemmas.{small-people}
 use Rattle.office_base.specs.Limits.{most_bundle_bytes}
-use Rattle.dossier_file.specs.Cut.{HasNoSection, IsCut}
+use Rattle.dossier_file.specs.Split.{HasNoSection, IsSplit}
 use Rattle.dossier_file.specs.Dossier.{AreDossier, GivesContent, HasDossierFault, HasSeasonFault, IsBundleFault, IsRequestsFault, IsScript}
 use Rattle.dossier_file.specs.Laws.{HaveOneDossier}
 use Rattle.dossier_file.specs.Papers.{AreDuePapers}
@@ -34,7 +34,7 @@ use Rattle.dossier_file.specs.Texts.{AreReadable}
 use Rattle.dossier_file.specs.declared.fault.DossierFault.{DossierFault}
 use Rattle.dossier_file.specs.declared.fault.DossierFault.TheVariants.{ReadFault, TooLong, NoSection, Season as BadSeason, Published, OutOfMemory}
 use Rattle.dossier_file.specs.declared.papers.Papers.{Papers}
-use Rattle.dossier_file.proofs.CutLemmas.{one_cut}
+use Rattle.dossier_file.proofs.SplitLemmas.{one_split}
 use Rattle.dossier_file.proofs.LineLemmas.{first_fewer}
 
 -- ---- requests
@@ -117,7 +117,7 @@ Parts = List ℕ × List ℕ × List ℕ
 
 -- the bytes are cut
 abbrev cut_ends : List ℕ → Result Parts DossierFault → Type 0
-cut_ends bytes (Ok parts) = (length bytes ≤ most_bundle_bytes) × IsCut bytes parts.0 parts.1 parts.2
+cut_ends bytes (Ok parts) = (length bytes ≤ most_bundle_bytes) × IsSplit bytes parts.0 parts.1 parts.2
 cut_ends bytes (Err fault) = ((most_bundle_bytes < length bytes) × (fault ≡ TooLong)) ⊎ ((length bytes ≤ most_bundle_bytes) × HasNoSection bytes × (fault ≡ NoSection))
 
 -- the bundle gives a season
@@ -146,7 +146,7 @@ ends bytes = then (cut_ends bytes) after_cut
 
 cut-once : (bytes : List ℕ) → EndsOnce (cut_ends bytes)
 cut-once bytes (Ok parts) (Ok others) a b =
-    let same = one_cut bytes parts.0 parts.1 parts.2 others.0 others.1 others.2 a.1 b.1 in λ i. Ok (same.bundles i, same.scripts i, same.papers i)
+    let same = one_split bytes parts.0 parts.1 parts.2 others.0 others.1 others.2 a.1 b.1 in λ i. Ok (same.bundles i, same.scripts i, same.papers i)
 cut-once bytes (Ok parts) (Err fault) a (inl b) = absurd (omega (arith, a.0, b.0))
 cut-once bytes (Ok parts) (Err fault) a (inr b) = absurd (b.1 parts.0 parts.1 parts.2 a.1)
 cut-once bytes (Err fault) (Ok parts) (inl a) b = absurd (omega (arith, a.0, b.0))

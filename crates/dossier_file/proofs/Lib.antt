@@ -7,7 +7,7 @@ mod RowsLemmas
 mod ListLemmas
 mod TextLemmas
 mod DueLemmas
-pub mod CutLemmas
+pub mod SplitLemmas
 mod KeptLemmas
 mod LawLemmas
 mod PartLemmas

@@ -13,12 +13,12 @@ use Rattle.dossier_file.specs.Papers.{AreDuePapers}
 use Rattle.season_file.specs.declared.content.Content.{Content}
 use Rattle.season_file.specs.declared.fault.SeasonFault.{SeasonFault}
 use Rattle.season_file.specs.declared.fault.SeasonFault.TheVariants.{NotUtf8, BadRequest, OutOfMemory as NoSeasonMemory}
-use Rattle.dossier_file.specs.Cut.{IsCut}
+use Rattle.dossier_file.specs.Split.{IsSplit}
 use Rattle.dossier_file.specs.Dossier.{GaveDossierFault, GivesContent, HasSeasonFault, IsBundleFault, IsBytesFault, IsRequestsError, IsScript, papers_error, season_error}
 use Rattle.dossier_file.specs.declared.fault.DossierFault.{DossierFault}
 use Rattle.dossier_file.specs.declared.fault.DossierFault.TheVariants.{ReadFault, TooLong, OutOfMemory}
 
-module _ (bytes bundle requests published : List ℕ) (short : length bytes ≤ most_bundle_bytes) (cut : IsCut bytes bundle requests published) where
+module _ (bytes bundle requests published : List ℕ) (short : length bytes ≤ most_bundle_bytes) (cut : IsSplit bytes bundle requests published) where
   has : (fault : SeasonFault) → IsBundleFault bundle requests fault → HasSeasonFault bytes fault
   has fault is = record { short = short; bundle = bundle; requests = requests; published = published; cut = cut; is = is }
 

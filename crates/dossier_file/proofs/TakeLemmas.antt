@@ -5,7 +5,7 @@ use Rattle.text_readers.specs.declared.fault.TextFault.{TextFault}
 use Rattle.text_readers.specs.declared.fault.TextFault.TheVariants.{Line, OutOfMemory}
 use Rattle.text_readers.proofs.PartsLemmas.{has-one}
 use Rattle.dossier_file.specs.Papers.{OwnTexts}
-use Rattle.dossier_file.specs.Texts.{IsCutAfter, IsEnding, IsFaultFrom, IsNoHead, IsReadFrom, IsTextsFault, IsUnending, joined, line_past}
+use Rattle.dossier_file.specs.Texts.{IsSplitAfter, IsEnding, IsFaultFrom, IsNoHead, IsReadFrom, IsTextsFault, IsUnending, joined, line_past}
 use Rattle.dossier_file.proofs.EndLemmas.{EndsOnce, ended_of, is_ended, least_of}
 use Rattle.dossier_file.proofs.HeadLemmas.{IsHead, IsHeaded, apart_fault, inside_fault, inside_line, own_fault}
 use Rattle.dossier_file.proofs.LineLemmas.{nothing_left, two_fronts}
@@ -30,7 +30,7 @@ head_ends head line more is e =
       | inr ended ↦ last_lf ended.0 line more ended.2 (sym ended.1 ∙ there)
     ]
 
-module _ {A : Type 0} (ending : List ℕ) (clear : HasNo 10 ending) (grammar : Grammar A) (once : EndsOnce ending grammar) (text piece rest : List ℕ) (cut : IsCutAfter ending text piece rest) where
+module _ {A : Type 0} (ending : List ℕ) (clear : HasNo 10 ending) (grammar : Grammar A) (once : EndsOnce ending grammar) (text piece rest : List ℕ) (cut : IsSplitAfter ending text piece rest) where
   shape : IsEnding ending piece ⊎ IsUnending ending piece
   shape = elim cut.cut [ inl is ↦ inl is | inr not ↦ inr not.0 ]
 
@@ -63,7 +63,7 @@ module _ {A : Type 0} (head ending : List ℕ) (clear : HasNo 10 ending) (gramma
   own_once : EndsOnce ending (OwnTexts grammar Own)
   own_once text value is = once text value is.0
 
-  module _ (text piece rest tail : List ℕ) (cut : IsCutAfter ending text piece rest) (begins : text ≡ head ++ tail) where
+  module _ (text piece rest tail : List ℕ) (cut : IsSplitAfter ending text piece rest) (begins : text ≡ head ++ tail) where
     -- the head is in the piece
     piece_headed : (more : List ℕ) × (piece ≡ head ++ more)
     piece_headed = elim (two_fronts piece rest head tail (sym cut.whole ∙ begins)) [

@@ -13,7 +13,7 @@ use Rattle.publish.specs.declared.reads.FinalRead.{FinalRead}
 use Rattle.publish.specs.declared.reads.RoundRead.{RoundRead}
 use Rattle.seat_matrix.specs.Matrix.{SeatTable}
 use Rattle.dossier_file.specs.Papers.{IsListAt, IsListOf, IsRoundOf}
-use Rattle.dossier_file.specs.Texts.{AreReadable, IsCutAfter, IsFaultFrom, IsNoHead, IsReadFrom, IsTextsFault, round_start}
+use Rattle.dossier_file.specs.Texts.{AreReadable, IsSplitAfter, IsFaultFrom, IsNoHead, IsReadFrom, IsTextsFault, round_start}
 use Rattle.dossier_file.proofs.ListLemmas.{end-list-clear, list-headed, list-is-head, list-once, list-some}
 use Rattle.dossier_file.proofs.RowsLemmas.{end-final-clear, end-round-clear, final-once, round-head, round-headed, round-once, round-some}
 use Rattle.dossier_file.proofs.TakeLemmas.{headless, own_refused_as, own_taken, refused_as, taken}
@@ -30,7 +30,7 @@ module _ (table : SeatTable) (people : List Person) (readable : AreReadable tabl
         headless (round_start number) (codes "end round") end-round-clear (IsRoundText table people) (λ read. read.round ≡ number) (round-once table people readable.spelled readable.small few)
         (round-headed table people number small) (round-head number small) (round-some table people number small) bytes line (subst (λ (z : List ℕ). IsNoHead z bytes line) same lacks)
 
-    module _ (tail piece rest : List ℕ) (begins : bytes ≡ head ++ tail) (cut : IsCutAfter (codes "end round") bytes piece rest) where
+    module _ (tail piece rest : List ℕ) (begins : bytes ≡ head ++ tail) (cut : IsSplitAfter (codes "end round") bytes piece rest) where
       pub round_taken : (read : RoundRead) → IsRoundText table people piece read → IsReadFrom (IsRoundOf table people number) bytes read rest
       round_taken read is =
           own_taken (round_start number) (codes "end round") end-round-clear (IsRoundText table people) (λ (r : RoundRead). r.round ≡ number) (round-once table people readable.spelled readable.small few)
@@ -60,7 +60,7 @@ module _ (table : SeatTable) (people : List Person) (readable : AreReadable tabl
         (list-headed table people known number prog small within) (list-is-head table people known number prog small within) (list-some table people number prog small within) bytes line
         (subst (λ (z : List ℕ). IsNoHead z bytes line) same lacks)
 
-    module _ (tail piece rest : List ℕ) (begins : bytes ≡ head ++ tail) (cut : IsCutAfter (codes "end list") bytes piece rest) where
+    module _ (tail piece rest : List ℕ) (begins : bytes ≡ head ++ tail) (cut : IsSplitAfter (codes "end list") bytes piece rest) where
       pub list_taken : (read : ListRead) → IsListText table people piece read → IsReadFrom (IsListOf table people number prog) bytes read rest
       list_taken read is =
           own_taken (list_head table number prog) (codes "end list") end-list-clear (IsListText table people) (IsListAt number prog) (list-once table people known)
@@ -75,7 +75,7 @@ module _ (table : SeatTable) (people : List Person) (readable : AreReadable tabl
 
   -- ---- final admissions
 
-  module _ (number : ℕ) (bytes piece rest : List ℕ) (cut : IsCutAfter (codes "end final") bytes piece rest) where
+  module _ (number : ℕ) (bytes piece rest : List ℕ) (cut : IsSplitAfter (codes "end final") bytes piece rest) where
     pub final_taken : (read : FinalRead) → IsFinalText table people number piece read → IsReadFrom (IsFinalText table people number) bytes read rest
     final_taken read is = taken (codes "end final") end-final-clear (IsFinalText table people number) (final-once table people readable.spelled readable.small few number) bytes piece rest cut read is
 

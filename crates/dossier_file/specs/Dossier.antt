@@ -15,7 +15,7 @@ use Rattle.season_file.specs.declared.season.Season.{Season}
 use Rattle.text_readers.specs.Reading.{IsFaultLine}
 use Rattle.text_readers.specs.declared.fault.TextFault.{TextFault}
 use Rattle.text_readers.specs.declared.fault.TextFault.TheVariants.{Line, OutOfMemory as NoTextMemory}
-use Rattle.dossier_file.specs.Cut.{HasNoSection, IsCut}
+use Rattle.dossier_file.specs.Split.{HasNoSection, IsSplit}
 use Rattle.dossier_file.specs.Papers.{AreDuePapers}
 use Rattle.dossier_file.specs.declared.dossier.Dossier.{Dossier}
 use Rattle.dossier_file.specs.declared.papers.Papers.{Papers}
@@ -35,7 +35,7 @@ pub record AreDossier (bytes : List ℕ) (season : Season) (script : List Reques
   pub bundle : List ℕ
   pub requests : List ℕ
   pub published : List ℕ
-  pub cut : IsCut bytes bundle requests published
+  pub cut : IsSplit bytes bundle requests published
   pub of_season : IsSeason bundle season
   pub of_script : IsScript requests script
   pub of_papers : AreDuePapers season.matrix season.register.people season.rounds script published papers
@@ -74,7 +74,7 @@ pub record HasSeasonFault (bytes : List ℕ) (fault : SeasonFault) : Type 0 wher
   pub bundle : List ℕ
   pub requests : List ℕ
   pub published : List ℕ
-  pub cut : IsCut bytes bundle requests published
+  pub cut : IsSplit bytes bundle requests published
   pub is : IsBundleFault bundle requests fault
 
 -- The bytes are cut, neither the season nor the requests have a fault, and this line of the published texts is the first up to
@@ -84,7 +84,7 @@ pub record HasPublishedFault (bytes : List ℕ) (line : ℕ) : Type 0 where
   pub bundle : List ℕ
   pub requests : List ℕ
   pub published : List ℕ
-  pub cut : IsCut bytes bundle requests published
+  pub cut : IsSplit bytes bundle requests published
   pub content : Content
   pub script : List Request
   pub of_season : GivesContent bundle content

@@ -1,4 +1,4 @@
-pub mod Cut
+pub mod Split
 pub mod Dossier
 pub mod Due
 pub mod Kept

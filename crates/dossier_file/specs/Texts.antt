@@ -44,7 +44,7 @@ pub record IsUnending (ending bytes : List ℕ) : Type 0 where
   pub whole : bytes ≡ joined lines ++ last
 
 -- The bytes are cut after the first ending line; where there is none, at their end.
-pub record IsCutAfter (ending bytes piece rest : List ℕ) : Type 0 where
+pub record IsSplitAfter (ending bytes piece rest : List ℕ) : Type 0 where
   pub whole : bytes ≡ piece ++ rest
   pub cut : IsEnding ending piece ⊎ (IsUnending ending piece × (rest ≡ []))
 

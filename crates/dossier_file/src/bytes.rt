@@ -1,9 +1,9 @@
 // How many lines there are, and where bytes are cut.
 ghost use Rattle.std.specs.Prelude.{◌≡◌, ◌<◌, ◌≤◌, ◌^◌, ◌++◌, List, ℕ, IfNone, IfSome, length};
 ghost use Rattle.text_readers.specs.Reading.{lines_in};
-ghost use Rattle.dossier_file.specs.Texts.{IsCutAfter, IsNoHead};
+ghost use Rattle.dossier_file.specs.Texts.{IsSplitAfter, IsNoHead};
 
-use text_readers::{after, cut};
+use text_readers::{after, split_at_byte};
 
 /// Returns how many lines there are. What follows the last LF is a line too.
 pub(crate) fn line_count(bytes: &[u8]) -> u32
@@ -13,7 +13,7 @@ pub(crate) fn line_count(bytes: &[u8]) -> u32
 {
     let mut rest = bytes;
     let mut count: u32 = 0;
-    'lines: while let Some((_, later)) = cut(rest, b'\n') {
+    'lines: while let Some((_, later)) = split_at_byte(rest, b'\n') {
         count += 1;
         rest = later;
     }
@@ -35,11 +35,11 @@ pub(crate) fn headless_line(bytes: &[u8], head: &[u8]) -> Option<u32>
 }
 
 /// The bytes cut after the first whole line that is this one. Where there is none, all of them, and nothing.
-pub(crate) fn cut_text<'a>(bytes: &'a [u8], ending: &[u8]) -> (&'a [u8], &'a [u8])
-    ensures { IsCutAfter ending.now bytes.now result.0.now result.1.now }
+pub(crate) fn split_after_line<'a>(bytes: &'a [u8], ending: &[u8]) -> (&'a [u8], &'a [u8])
+    ensures { IsSplitAfter ending.now bytes.now result.0.now result.1.now }
 {
     let mut rest = bytes;
-    'lines: while let Some((line, later)) = cut(rest, b'\n') {
+    'lines: while let Some((line, later)) = split_at_byte(rest, b'\n') {
         if line == ending {
             return bytes.split_at(bytes.len() - later.len());
         }

@@ -4,9 +4,9 @@ ghost use Rattle.dossier_file.specs.Due.{cuts_accepted};
 ghost use Rattle.dossier_file.specs.Kept.{HasTexts, NamesOnce, NamesOnce-prop};
 
 use crate::content::{papers_error, read_bytes, read_papers, read_requests, season_error};
-use crate::cutting::cut;
 use crate::fault::DossierFault;
 use crate::papers::{ListReads, Papers, RoundReads};
+use crate::splitting::split_at_titles;
 use office_base::Source;
 use publish::FinalRead;
 use request_rows::Script;
@@ -57,7 +57,7 @@ impl Dossier {
         ensures value { IfOk result (λ dossier. IsDossier bytes.now dossier) }
         ensures fault { IfErr result (λ fault. IsBytesFault bytes.now fault) }
     {
-        let Some(parts) = cut(bytes) else {
+        let Some(parts) = split_at_titles(bytes) else {
             return Err(DossierFault::NoSection);
         };
         let season = match Season::from_text(alloc, parts.bundle) {

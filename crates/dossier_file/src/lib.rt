@@ -1,6 +1,6 @@
 // The dossier of a season: its bundle, its requests, and the texts that were published of it, read exactly.
 //
-// Every crate that audits a season depends on it. `specs/Cut` says where a dossier is cut into its three parts.
+// Every crate that audits a season depends on it. `specs/Split` says where a dossier is cut into its three parts.
 // `specs/Due` and `specs/Papers` say which texts the accepted cuts of its requests publish, in which order, and what
 // they say. `specs/Dossier` says which dossier some bytes are, and which of their faults is the first. It decides
 // nothing about an allocation. It must never know how a round is made or found sound.
@@ -8,12 +8,12 @@
 
 mod bytes;
 mod content;
-mod cutting;
 pub mod dossier;
 pub mod due;
 pub mod fault;
 pub mod laws;
 pub mod papers;
+mod splitting;
 mod texts;
 
 pub use dossier::Dossier;

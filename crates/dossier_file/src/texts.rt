@@ -8,7 +8,7 @@ ghost use Rattle.dossier_file.specs.Due.{IsDueOf};
 ghost use Rattle.dossier_file.specs.Papers.{ArePapers, IsListOf, IsRoundOf};
 ghost use Rattle.dossier_file.specs.Texts.{AreReadable, HasRoom, IsDueFault, IsPut, IsReadFrom, IsTextsFault, after_lines, round_start};
 
-use crate::bytes::{cut_text, headless_line, line_count};
+use crate::bytes::{headless_line, line_count, split_after_line};
 use crate::due::Due;
 use crate::papers::{ListReads, Papers, RoundReads};
 use office_base::{OutOfMemory, ProgId, Text};
@@ -66,7 +66,7 @@ fn take_round<'a>(
     if let Some(line) = headless_line(bytes, head.as_slice()) {
         return Err(TextFault::Line(line));
     }
-    let (piece, rest) = cut_text(bytes, b"end round");
+    let (piece, rest) = split_after_line(bytes, b"end round");
     match read_round(alloc, season, piece) {
         Ok(read) => Ok((read, rest)),
         Err(fault) => Err(fault),
@@ -92,7 +92,7 @@ fn take_list<'a>(
     if let Some(line) = headless_line(bytes, head.as_slice()) {
         return Err(TextFault::Line(line));
     }
-    let (piece, rest) = cut_text(bytes, b"end list");
+    let (piece, rest) = split_after_line(bytes, b"end list");
     match read_list(alloc, season, piece) {
         Ok(read) => Ok((read, rest)),
         Err(fault) => Err(fault),
@@ -111,7 +111,7 @@ fn take_final<'a>(
     ensures fault { IfErr result (λ fault. IsTextsFault (IsFinalText season.now.matrix
         season.now.register.people (season.now.rounds + 1)) bytes.now fault) }
 {
-    let (piece, rest) = cut_text(bytes, b"end final");
+    let (piece, rest) = split_after_line(bytes, b"end final");
     match read_final(alloc, season, piece) {
         Ok(read) => Ok((read, rest)),
         Err(fault) => Err(fault),

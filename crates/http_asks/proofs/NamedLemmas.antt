@@ -9,7 +9,7 @@ use Rattle.std.proofs.lemmas.List.{append-nil}
 use Rattle.std.proofs.lemmas.List.Folds.{list_all-append}
 use Rattle.office_base.specs.Codes.{is_code, is_code_byte}
 use Rattle.office_base.specs.Limits.{longest_code, shortest_code}
-use Rattle.office_text.specs.Lines.{cut_at, onto_first}
+use Rattle.office_text.specs.Lines.{split_at_each, onto_first}
 use Rattle.office_text.specs.Names.{code_of}
 use Rattle.office_text.specs.Number.{AreInverse, is_number, number_within, value_of}
 use Rattle.http_asks.specs.Laws.{HasPath, page_text}
@@ -29,14 +29,14 @@ no_mark passes mark byte true same fails is = absurd (false≢true (sym fails �
 no_mark passes mark byte false same fails is = refl
 
 -- bytes without the mark are one piece
-uncut : (passes : ℕ → Bool) (mark : ℕ) → passes mark ≡ false → (text : List ℕ) → list_all passes text ≡ true → cut_at mark text ≡ text ∷ []
+uncut : (passes : ℕ → Bool) (mark : ℕ) → passes mark ≡ false → (text : List ℕ) → list_all passes text ≡ true → split_at_each mark text ≡ text ∷ []
 uncut passes mark fails [] all = refl
 uncut passes mark fails (byte ∷ text) all =
     let parts = and_parts (passes byte) (list_all passes text) all in
     cond-false (byte == mark) _ _ (no_mark passes mark byte (byte == mark) refl fails parts.0) ∙ ap (onto_first byte) (uncut passes mark fails text parts.1)
 
 -- they are the first piece if the mark follows
-cut_before : (passes : ℕ → Bool) (mark : ℕ) → passes mark ≡ false → (text rest : List ℕ) → list_all passes text ≡ true → cut_at mark (text ++ mark ∷ rest) ≡ text ∷ cut_at mark rest
+cut_before : (passes : ℕ → Bool) (mark : ℕ) → passes mark ≡ false → (text rest : List ℕ) → list_all passes text ≡ true → split_at_each mark (text ++ mark ∷ rest) ≡ text ∷ split_at_each mark rest
 cut_before passes mark fails [] rest all = cond-true (mark == mark) _ _ (eq-eqb mark mark refl)
 cut_before passes mark fails (byte ∷ text) rest all =
     let parts = and_parts (passes byte) (list_all passes text) all in
@@ -103,13 +103,13 @@ pieces_with (number_and_code low high asked) n code = decimal n ∷ code ∷ []
 
 -- a name and what follows it: its pieces, the page that they name, and that no query begins
 record IsTail (name : List ℕ) (shape : Shape) (n : ℕ) (code : List ℕ) : Type 0 where
-  cut : cut_at 47 (name ++ tail_with shape n code) ≡ name ∷ pieces_with shape n code
+  cut : split_at_each 47 (name ++ tail_with shape n code) ≡ name ∷ pieces_with shape n code
   names : page_after shape (pieces_with shape n code) ≡ Some (page_with shape n code)
   bare : list_all unqueried (tail_with shape n code) ≡ true
 
 tail : AreInverse → (name : List ℕ) → list_all is_code_byte name ≡ true → (shape : Shape) (n : ℕ) (code : List ℕ) → highest shape < 2 ^ 64 → IsWithin shape n code → IsTail name shape n code
 tail inverse name plain (alone page) n code small within = record {
-  cut = ap (cut_at 47) (append-nil name) ∙ uncut is_code_byte 47 refl name plain;
+  cut = ap (split_at_each 47) (append-nil name) ∙ uncut is_code_byte 47 refl name plain;
   names = refl;
   bare = refl;
 }
@@ -132,7 +132,7 @@ tail inverse name plain (number_and_code low high asked) n code small within =
 
 -- what the path of a page names, and that it has no query
 record IsPathOf (page : Page) : Type 0 where
-  names : page_at (cut_at 47 (page_text page)) ≡ Some page
+  names : page_at (split_at_each 47 (page_text page)) ≡ Some page
   bare : path_of (page_text page) ≡ page_text page
 
 -- the path on a road with a number and a code
@@ -145,7 +145,7 @@ road-path inverse road n code within =
     let text : page_text (page_with (shape_of road) n code) ≡ path = texts road n code in
     let bare : list_all unqueried (name ++ end) ≡ true =
     list_all-append unqueried name end ∙ and_from (list_all unqueried name) (list_all unqueried end) (all_unqueried is_code_byte refl name (name-bytes road)) is.bare in record {
-      names = ap (λ (path : List ℕ). page_at (cut_at 47 path)) text
+      names = ap (λ (path : List ℕ). page_at (split_at_each 47 path)) text
           ∙ ap (λ (pieces : List (List ℕ)). page_at ([] ∷ codes "v1" ∷ pieces)) is.cut
           ∙ own-row road (pieces_with (shape_of road) n code)
           ∙ is.names;
@@ -161,7 +161,7 @@ path-of inverse page has =
 pub queried_path : AreInverse → (target : List ℕ) (page : Page) → HasPath page → path_of target ≡ page_text page → page_of target ≡ Some page
 unfolding page_of
 queried_path inverse target page has same =
-    ap (λ (path : List ℕ). page_at (cut_at 47 path)) same ∙ (path-of inverse page has).names
+    ap (λ (path : List ℕ). page_at (split_at_each 47 path)) same ∙ (path-of inverse page has).names
 
 -- The path of a page names it.
 pub named_path : AreInverse → (page : Page) → HasPath page → page_of (page_text page) ≡ Some page

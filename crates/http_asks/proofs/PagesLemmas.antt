@@ -9,7 +9,7 @@ use Rattle.std.proofs.lemmas.Slice.Eq.{bytes_eq-Decides}
 use Rattle.std.proofs.lemmas.Option.{none-some}
 use Rattle.office_base.specs.Codes.{is_code}
 use Rattle.office_base.specs.declared.asks.Ask.{Ask}
-use Rattle.office_text.specs.Lines.{cut_at, onto_first}
+use Rattle.office_text.specs.Lines.{split_at_each, onto_first}
 use Rattle.office_text.specs.Names.{code_of}
 use Rattle.office_text.specs.Number.{AreInverse, is_number, number_within, value_of}
 use Rattle.http_asks.specs.Laws.{page_text}
@@ -35,9 +35,9 @@ slashed-step byte bytes pieces true is same = ap (λ (text : List ℕ). 47 ∷ t
 slashed-step byte bytes pieces false is same = slashed-onto byte pieces bytes same
 
 -- the pieces of bytes are the bytes
-pub slashed-cut : (bytes : List ℕ) → slashed (cut_at 47 bytes) ≡ 47 ∷ bytes
+pub slashed-cut : (bytes : List ℕ) → slashed (split_at_each 47 bytes) ≡ 47 ∷ bytes
 slashed-cut [] = refl
-slashed-cut (byte ∷ bytes) = slashed-step byte bytes (cut_at 47 bytes) (byte == 47) refl (slashed-cut bytes)
+slashed-cut (byte ∷ bytes) = slashed-step byte bytes (split_at_each 47 bytes) (byte == 47) refl (slashed-cut bytes)
 
 -- what is there under a test
 pub cond-some : {X : Type 0} (is : Bool) (o : Option X) (x : X) → cond is o None ≡ Some x → (is ≡ true) × (o ≡ Some x)
@@ -146,4 +146,4 @@ at-text inverse (root ∷ version ∷ pieces) page e =
 pub one_path : AreInverse → (target : List ℕ) (page : Page) → page_of target ≡ Some page → path_of target ≡ page_text page
 unfolding page_of
 one_path inverse target page e =
-    ap (λ (text : List ℕ). drop 1 text) (sym (slashed-cut (path_of target)) ∙ at-text inverse (cut_at 47 (path_of target)) page e)
+    ap (λ (text : List ℕ). drop 1 text) (sym (slashed-cut (path_of target)) ∙ at-text inverse (split_at_each 47 (path_of target)) page e)

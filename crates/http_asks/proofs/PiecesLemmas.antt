@@ -1,8 +1,8 @@
 -- The path of a target, and its pieces.
 use Rattle.std.proofs.Common.{◌≡◌, ◌+◌, ◌==◌, ℕ, suc, Bool, true, false, cond, List, [], ◌∷◌, length, take, take_all, not, None, refl, sym, ap, ◌∙◌, arith}
 use Rattle.std.specs.List.{before_first, position_or_len}
-use Rattle.office_text.specs.Lines.{cut_at, onto_first}
-use Rattle.office_text.proofs.LinesLemmas.{cut_at-filled}
+use Rattle.office_text.specs.Lines.{split_at_each, onto_first}
+use Rattle.office_text.proofs.LinesLemmas.{split_at_each-filled}
 use Rattle.http_asks.specs.Pages.{first_of_pieces, path_of}
 use Rattle.http_asks.specs.Roads.{one_of, two_of}
 
@@ -19,7 +19,7 @@ path-byte byte (piece ∷ pieces) len bytes false same = ap (λ (text : List ℕ
 
 pub path-before : (bytes : List ℕ) → path_of bytes ≡ before_first (λ (b : ℕ). b == 63) bytes
 path-before [] = refl
-path-before (byte ∷ bytes) = path-byte byte (cut_at 63 bytes) (position_or_len (λ (b : ℕ). b == 63) bytes) bytes (byte == 63) (path-before bytes)
+path-before (byte ∷ bytes) = path-byte byte (split_at_each 63 bytes) (position_or_len (λ (b : ℕ). b == 63) bytes) bytes (byte == 63) (path-before bytes)
 
 pub path-whole : (bytes : List ℕ) → position_or_len (λ (b : ℕ). b == 63) bytes ≡ length bytes → path_of bytes ≡ bytes
 path-whole bytes none = path-before bytes ∙ take_all _ bytes (omega (arith, none))
@@ -27,13 +27,13 @@ path-whole bytes none = path-before bytes ∙ take_all _ bytes (omega (arith, no
 -- ---- how many pieces there are
 
 -- two pieces are not one
-pub not-one : (rest one more : List ℕ) → cut_at 47 rest ≡ one ∷ cut_at 47 more → one_of (cut_at 47 rest) ≡ None
+pub not-one : (rest one more : List ℕ) → split_at_each 47 rest ≡ one ∷ split_at_each 47 more → one_of (split_at_each 47 rest) ≡ None
 not-one rest one more cut =
-    let (second, others, filled) = cut_at-filled 47 more in
+    let (second, others, filled) = split_at_each-filled 47 more in
     ap one_of (cut ∙ ap (λ (pieces : List (List ℕ)). one ∷ pieces) filled)
 
 -- three pieces are not two
-pub not-two : (rest one after other more : List ℕ) → cut_at 47 rest ≡ one ∷ cut_at 47 after → cut_at 47 after ≡ other ∷ cut_at 47 more → two_of (cut_at 47 rest) ≡ None
+pub not-two : (rest one after other more : List ℕ) → split_at_each 47 rest ≡ one ∷ split_at_each 47 after → split_at_each 47 after ≡ other ∷ split_at_each 47 more → two_of (split_at_each 47 rest) ≡ None
 not-two rest one after other more cut again =
-    let (third, others, filled) = cut_at-filled 47 more in
+    let (third, others, filled) = split_at_each-filled 47 more in
     ap two_of (cut ∙ ap (λ (pieces : List (List ℕ)). one ∷ pieces) (again ∙ ap (λ (pieces : List (List ℕ)). other ∷ pieces) filled))

@@ -13,7 +13,7 @@ use Rattle.matchit.specs.declared.error.InsertError.{InsertError}
 use Rattle.matchit.proofs.NearestLemmas.{nearest-rename}
 use Rattle.matchit.proofs.RenameLemmas.{first-rename}
 use Rattle.office_base.specs.declared.asks.Ask.{Ask}
-use Rattle.office_text.specs.Lines.{cut_at, onto_first}
+use Rattle.office_text.specs.Lines.{split_at_each, onto_first}
 use Rattle.office_text.specs.Number.{number_within}
 use Rattle.http_asks.specs.Pages.{page_at, page_named}
 use Rattle.http_asks.specs.Roads.{Shape, alone, number, number_and_code, all_roads, asked_with, name_of, page_after, shape_of}
@@ -72,9 +72,9 @@ plain-step : (byte : ℕ) (pieces : List (List ℕ)) (is : Bool) → (byte == 47
 plain-step byte pieces true is plain = (refl, plain)
 plain-step byte pieces false is plain = plain-onto byte pieces is plain
 
-plain-cut : (bytes : List ℕ) → ArePlain (cut_at 47 bytes)
+plain-cut : (bytes : List ℕ) → ArePlain (split_at_each 47 bytes)
 plain-cut [] = (refl, tt)
-plain-cut (byte ∷ bytes) = plain-step byte (cut_at 47 bytes) (byte == 47) refl (plain-cut bytes)
+plain-cut (byte ∷ bytes) = plain-step byte (split_at_each 47 bytes) (byte == 47) refl (plain-cut bytes)
 
 -- the router finds the path
 abbrev pub IsFound : List ℕ → Type 0
@@ -163,10 +163,10 @@ at-found (root ∷ version ∷ pieces) path page plain same e =
     found-as path (codes "/v1" ++ slashed pieces) (ap (λ (list : List ℕ). drop 1 list) (sym same ∙ text)) (named-found pieces page plain.1.1 named)
 
 -- no page if the router finds nothing
-page-missing : (path : List ℕ) (page : Option Page) → page_at (cut_at 47 path) ≡ page → first road_rows path ≡ None → page ≡ None
+page-missing : (path : List ℕ) (page : Option Page) → page_at (split_at_each 47 path) ≡ page → first road_rows path ≡ None → page ≡ None
 page-missing path None is none = refl
 page-missing path (Some page) is none =
-    let found : IsFound path = at-found (cut_at 47 path) path page (plain-cut path) (slashed-cut path) is in
+    let found : IsFound path = at-found (split_at_each 47 path) path page (plain-cut path) (slashed-cut path) is in
     absurd (false≢true (ap (λ (o : Option Road). is_some o) (sym none) ∙ found))
 
 -- ---- what the router says
@@ -181,9 +181,9 @@ found-on rows path route table found =
     matched-on road_rows route.value path (are-roads all_roads [] tt) (first-matched road_rows path route.value (walk-as rows path table ∙ ap (λ (o : Option (RouteOf Road)). map_key (λ (route : RouteOf Road). route.value) o) found))
 
 -- Where it finds none, the path is no page's.
-pub missing-none : (rows : RowsOf (RouteOf Road)) (path : List ℕ) → roads_of rows ≡ road_rows → first rows path ≡ None → page_at (cut_at 47 path) ≡ None
+pub missing-none : (rows : RowsOf (RouteOf Road)) (path : List ℕ) → roads_of rows ≡ road_rows → first rows path ≡ None → page_at (split_at_each 47 path) ≡ None
 missing-none rows path table missing =
-    page-missing path (page_at (cut_at 47 path)) refl (walk-as rows path table ∙ ap (λ (o : Option (RouteOf Road)). map_key (λ (route : RouteOf Road). route.value) o) missing)
+    page-missing path (page_at (split_at_each 47 path)) refl (walk-as rows path table ∙ ap (λ (o : Option (RouteOf Road)). map_key (λ (route : RouteOf Road). route.value) o) missing)
 
 -- ---- roads that are added
 

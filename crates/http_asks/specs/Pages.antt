@@ -1,6 +1,6 @@
 -- Which page of the office a target names, by the pieces of its path.
 use Rattle.std.specs.Prelude.{ℕ, ◌&&◌, Bool, true, false, List, [], ◌∷◌, Option, None, bytes_eq, codes, if◌then◌else◌}
-use Rattle.office_text.specs.Lines.{cut_at}
+use Rattle.office_text.specs.Lines.{split_at_each}
 use Rattle.http_wire.specs.declared.methods.Method.{Method}
 use Rattle.http_wire.specs.declared.methods.Method.TheVariants.{Get, Post}
 use Rattle.http_asks.specs.Roads.{all_roads, name_of, page_after, shape_of}
@@ -15,7 +15,7 @@ first_of_pieces (piece ∷ pieces) = piece
 
 -- the path of a target: what comes before its first `?`
 abbrev pub path_of : List ℕ → List ℕ
-path_of target = first_of_pieces (cut_at 63 target)
+path_of target = first_of_pieces (split_at_each 63 target)
 
 -- the page of that name, by the pieces after it, if it is on one of these roads
 abbrev pub page_among : List Road → List ℕ → List (List ℕ) → Option Page
@@ -35,7 +35,7 @@ page_at (root ∷ version ∷ pieces) = if bytes_eq root [] && bytes_eq version 
 
 -- the page that a target names: its path is cut at its slashes and not decoded
 unfoldable pub page_of : List ℕ → Option Page
-page_of target = page_at (cut_at 47 (path_of target))
+page_of target = page_at (split_at_each 47 (path_of target))
 
 -- the page takes a body
 abbrev pub takes_body : Page → Bool

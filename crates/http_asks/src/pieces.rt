@@ -1,7 +1,7 @@
 // What the pieces of a path spell.
 ghost use Rattle.std.specs.Prelude.{◌≡◌, ◌∷◌, [], IfNone, IfSome, option_copied, option_map};
 ghost use Rattle.office_base.specs.Limits.{last_id, last_window};
-ghost use Rattle.office_text.specs.Lines.{cut_at};
+ghost use Rattle.office_text.specs.Lines.{split_at_each};
 ghost use Rattle.office_text.specs.Number.{number_within};
 ghost use Rattle.http_asks.specs.Roads.{one_of, two_of};
 
@@ -12,7 +12,7 @@ use office_text::read_number;
 
 /// Returns the one piece. None if there is a slash.
 pub(crate) fn one_piece(rest: &[u8]) -> Option<&[u8]>
-    ensures { option_copied result ≡ one_of (cut_at 47 rest.now) }
+    ensures { option_copied result ≡ one_of (split_at_each 47 rest.now) }
 {
     match first_piece(rest, b'/') {
         (piece, None) => Some(piece),
@@ -22,8 +22,9 @@ pub(crate) fn one_piece(rest: &[u8]) -> Option<&[u8]>
 
 /// Returns the two pieces on both sides of the one slash. None if there is none, or more than one.
 pub(crate) fn two_pieces(rest: &[u8]) -> Option<(&[u8], &[u8])>
-    ensures some { IfSome result (λ pieces. cut_at 47 rest.now ≡ pieces.0.now ∷ pieces.1.now ∷ []) }
-    ensures none { IfNone result (two_of (cut_at 47 rest.now) ≡ None) }
+    ensures some { IfSome result
+        (λ pieces. split_at_each 47 rest.now ≡ pieces.0.now ∷ pieces.1.now ∷ []) }
+    ensures none { IfNone result (two_of (split_at_each 47 rest.now) ≡ None) }
 {
     let (one, after) = first_piece(rest, b'/');
     match first_piece(after?, b'/') {
@@ -34,9 +35,9 @@ pub(crate) fn two_pieces(rest: &[u8]) -> Option<(&[u8], &[u8])>
 
 /// Returns the bytes before the first separator, and those after it if there is one.
 pub(crate) fn first_piece(bytes: &[u8], separator: u8) -> (&[u8], Option<&[u8]>)
-    ensures last { IfNone result.1 (cut_at separator bytes.now ≡ result.0.now ∷ []) }
+    ensures last { IfNone result.1 (split_at_each separator bytes.now ≡ result.0.now ∷ []) }
     ensures more { IfSome result.1 (λ rest.
-        cut_at separator bytes.now ≡ result.0.now ∷ cut_at separator rest.now) }
+        split_at_each separator bytes.now ≡ result.0.now ∷ split_at_each separator rest.now) }
 {
     match memchr(separator, bytes) {
         Some(end) => (&bytes[..end], Some(&bytes[end + 1..])),

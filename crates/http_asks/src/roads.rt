@@ -1,7 +1,7 @@
 // The roads to the pages: the route of each, and the page that a path on it names.
 ghost use Rattle.std.specs.Prelude.{◌≡◌, ◌++◌, []};
 ghost use Rattle.matchit.specs.Route.{parse_route};
-ghost use Rattle.office_text.specs.Lines.{cut_at};
+ghost use Rattle.office_text.specs.Lines.{split_at_each};
 ghost use Rattle.http_asks.specs.Pages.{first_of_pieces, page_at};
 ghost use Rattle.http_asks.specs.Roads.{page_after, shape_of};
 ghost use Rattle.http_asks.specs.Router.{IsRouteOf, parameters, road_start};
@@ -48,7 +48,7 @@ impl Road {
     #[tactic(auto, unfolding(matchit::specs::Route::scan))]
     pub(crate) fn route(self) -> &'static str
         ensures read { IsRouteOf self (parse_route result.now) }
-        ensures start { first_of_pieces (cut_at 123 result.now) ≡ road_start self }
+        ensures start { first_of_pieces (split_at_each 123 result.now) ≡ road_start self }
     {
         match self {
             Road::Answer => "/v1/answer",
@@ -77,7 +77,7 @@ impl Road {
     /// Returns the page that a path on this road names, by what comes after its start.
     pub(crate) fn page(self, rest: &[u8]) -> Option<Page>
         requires { parameters (shape_of self) ≡ [] → rest.now ≡ [] }
-        ensures { result ≡ page_at (cut_at 47 (road_start self ++ rest.now)) }
+        ensures { result ≡ page_at (split_at_each 47 (road_start self ++ rest.now)) }
     {
         match self {
             Road::Answer => Some(Page::Answers),
@@ -113,7 +113,7 @@ impl Road {
 
 /// Returns the page of a programme's list of a round.
 fn list_page(rest: &[u8]) -> Option<Page>
-    ensures { result ≡ page_after (shape_of Road.RoundList) (cut_at 47 rest.now) }
+    ensures { result ≡ page_after (shape_of Road.RoundList) (split_at_each 47 rest.now) }
 {
     let (round, prog) = two_pieces(rest)?;
     let round = read_round(round)?;
@@ -123,7 +123,7 @@ fn list_page(rest: &[u8]) -> Option<Page>
 
 /// Returns the page of a programme's cutoffs in a round.
 fn cutoffs_page(rest: &[u8]) -> Option<Page>
-    ensures { result ≡ page_after (shape_of Road.Cutoffs) (cut_at 47 rest.now) }
+    ensures { result ≡ page_after (shape_of Road.Cutoffs) (split_at_each 47 rest.now) }
 {
     let (round, prog) = two_pieces(rest)?;
     let round = read_round(round)?;
@@ -133,7 +133,7 @@ fn cutoffs_page(rest: &[u8]) -> Option<Page>
 
 /// Returns the page of why a candidate has a seat of a programme or none.
 fn why_page(rest: &[u8]) -> Option<Page>
-    ensures { result ≡ page_after (shape_of Road.Why) (cut_at 47 rest.now) }
+    ensures { result ≡ page_after (shape_of Road.Why) (split_at_each 47 rest.now) }
 {
     let (cand, prog) = two_pieces(rest)?;
     let cand = read_candidate(cand)?;

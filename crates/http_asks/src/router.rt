@@ -3,7 +3,7 @@ ghost use Rattle.std.specs.Prelude.{◌≡◌, List, ℕ, None, Ok, true, IfSome
 ghost use Rattle.matchit.specs.Order.{placed};
 ghost use Rattle.matchit.specs.Route.{parse_route};
 ghost use Rattle.matchit.specs.Router.{InsertsRead, nearest};
-ghost use Rattle.office_text.specs.Lines.{cut_at};
+ghost use Rattle.office_text.specs.Lines.{split_at_each};
 ghost use Rattle.http_asks.specs.Pages.{page_at};
 ghost use Rattle.http_asks.specs.Router.{Fits, IsOn, fit, pattern_of, road_rows, roads_of, with_roads};
 
@@ -31,7 +31,7 @@ impl Routes {
     /// None only if the path is no page's.
     pub fn road_of<'a>(&self, path: &'a str) -> Option<(Road, &'a [u8])>
         ensures some { IfSome result (λ on. IsOn on.0 path.now on.1.now) }
-        ensures none { IfNone result (page_at (cut_at 47 path.now) ≡ None) }
+        ensures none { IfNone result (page_at (split_at_each 47 path.now) ≡ None) }
     {
         match self.router.at(path) {
             Ok(found) => {

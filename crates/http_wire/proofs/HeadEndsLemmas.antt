@@ -1,7 +1,7 @@
 -- Where a head ends: lines as they come, and bytes that follow.
 use Rattle.std.proofs.Common.{◌≡◌, ◌<◌, ◌≤◌, ◌+◌, ℕ, suc, Bool, true, false, cond, eqb, List, [], ◌∷◌, ◌++◌, length, take, drop, get_or, Option, None, Some, option_map, unwrap_or, refl, sym, ap, ◌∙◌, arith}
-use Rattle.office_text.specs.Lines.{cut_at, onto_first}
-use Rattle.office_text.proofs.LinesLemmas.{IsFilled, cut_at-filled, cut_at-first, cut_at-whole}
+use Rattle.office_text.specs.Lines.{split_at_each, onto_first}
+use Rattle.office_text.proofs.LinesLemmas.{IsFilled, split_at_each-filled, split_at_each-first, split_at_each-whole}
 use Rattle.http_wire.specs.HeadEnds.{without_last, closed_lines, is_empty_line, onto_lines, to_empty, head_lines, bytes_of, head_len}
 
 -- A piece before other pieces is not the last one.
@@ -11,11 +11,11 @@ kept_before piece pieces filled = rw filled.2 refl
 -- The first LF ends the first line.
 pub closed_lines-first : (bytes : List ℕ) (end : ℕ) → end < length bytes → get_or bytes end 0 ≡ 10 → ((k : ℕ) → k < end → get_or bytes k 0 ≡ 10 → ⊥) → closed_lines bytes ≡ take end bytes ∷ closed_lines (drop (suc end) bytes)
 closed_lines-first bytes end within here before =
-    ap without_last (cut_at-first 10 bytes end within here before) ∙ kept_before (take end bytes) (cut_at 10 (drop (suc end) bytes)) (cut_at-filled 10 (drop (suc end) bytes))
+    ap without_last (split_at_each-first 10 bytes end within here before) ∙ kept_before (take end bytes) (split_at_each 10 (drop (suc end) bytes)) (split_at_each-filled 10 (drop (suc end) bytes))
 
 -- Without LF no line has ended.
 pub closed_lines-none : (bytes : List ℕ) → ((k : ℕ) → k < length bytes → get_or bytes k 0 ≡ 10 → ⊥) → closed_lines bytes ≡ []
-closed_lines-none bytes before = ap without_last (cut_at-whole 10 bytes before)
+closed_lines-none bytes before = ap without_last (split_at_each-whole 10 bytes before)
 
 -- a byte before the first line, where there is one
 abbrev pub onto : ℕ → List (List ℕ) → List (List ℕ)
@@ -31,9 +31,9 @@ onto-without byte (piece ∷ next ∷ pieces) = refl
 pub closed_lines-cons : (byte : ℕ) (bytes : List ℕ) → closed_lines (byte ∷ bytes) ≡ cond (eqb byte 10) ([] ∷ closed_lines bytes) (onto byte (closed_lines bytes))
 closed_lines-cons byte bytes = by (eqb byte 10)
   where
-    by : (ends : Bool) → without_last (cond ends ([] ∷ cut_at 10 bytes) (onto_first byte (cut_at 10 bytes))) ≡ cond ends ([] ∷ closed_lines bytes) (onto byte (closed_lines bytes))
-    by true = kept_before [] (cut_at 10 bytes) (cut_at-filled 10 bytes)
-    by false = onto-without byte (cut_at 10 bytes)
+    by : (ends : Bool) → without_last (cond ends ([] ∷ split_at_each 10 bytes) (onto_first byte (split_at_each 10 bytes))) ≡ cond ends ([] ∷ closed_lines bytes) (onto byte (closed_lines bytes))
+    by true = kept_before [] (split_at_each 10 bytes) (split_at_each-filled 10 bytes)
+    by false = onto-without byte (split_at_each 10 bytes)
 
 -- the lines begin with those lines
 abbrev pub BeginWith : List (List ℕ) → List (List ℕ) → Type 0

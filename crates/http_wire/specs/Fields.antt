@@ -4,7 +4,7 @@ use Rattle.std.specs.List.{list_all, list_any}
 use Rattle.std.specs.Str.{str_eq_ignore_ascii_case}
 use Rattle.http_wire.specs.Limits.{most_body_bytes}
 use Rattle.httparse.specs.Grammar.{trim_ows}
-use Rattle.office_text.specs.Lines.{cut_at}
+use Rattle.office_text.specs.Lines.{split_at_each}
 use Rattle.office_text.specs.Number.{are_digits, value_of}
 use Rattle.http_wire.specs.Methods.{method_name}
 use Rattle.http_wire.specs.declared.methods.Method.TheVariants.{Post}
@@ -72,7 +72,7 @@ is_close part = str_eq_ignore_ascii_case (trim_ows part) (codes "close")
 
 -- a part of the value between commas is `close`
 abbrev pub lists_close : List ℕ → Bool
-lists_close text = list_any is_close (cut_at 44 text)
+lists_close text = list_any is_close (split_at_each 44 text)
 
 -- the connection closes after the reply: the version is 1.0, or a field says so
 abbrev pub closes : ℕ → List Pair → Bool

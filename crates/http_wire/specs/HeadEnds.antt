@@ -1,6 +1,6 @@
 -- Where the head of a message ends.
 use Rattle.std.specs.Prelude.{ℕ, ◌+◌, ◌==◌, Bool, true, false, List, [], ◌∷◌, length, Option, None, Some, option_map, if◌then◌else◌}
-use Rattle.office_text.specs.Lines.{cut_at}
+use Rattle.office_text.specs.Lines.{split_at_each}
 
 -- the pieces without the last one
 abbrev pub without_last : List (List ℕ) → List (List ℕ)
@@ -10,7 +10,7 @@ without_last (piece ∷ next ∷ pieces) = piece ∷ without_last (next ∷ piec
 
 -- the lines that an LF ended, without that LF
 abbrev pub closed_lines : List ℕ → List (List ℕ)
-closed_lines bytes = without_last (cut_at 10 bytes)
+closed_lines bytes = without_last (split_at_each 10 bytes)
 
 -- nothing, or a CR alone
 abbrev pub is_empty_line : List ℕ → Bool

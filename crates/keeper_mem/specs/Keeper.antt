@@ -6,7 +6,7 @@ use Rattle.keeper_mem.specs.declared.keeper.KeepFault.{KeepFault}
 use Rattle.keeper_mem.specs.declared.keeper.KeepFault.TheVariants.{Failed}
 
 -- A keeper as it is seen.
-pub record Shelf : Type 0 where
+pub record KeeperView : Type 0 where
   -- the tables, if they are visible; a keeper may hide them at any call, and never shows them again
   pub tables : Tables
   -- how often it has failed; it never falls, and stays at 2^64 - 1
@@ -18,7 +18,7 @@ pub record Shelf : Type 0 where
 
 -- A keeper failed only if this cause holds; otherwise its count of faults is unchanged.
 -- Whether it holds room in advance is unchanged.
-pub record Blames (told : Type 0) (old new : Shelf) : Type 0 where
+pub record Blames (told : Type 0) (old new : KeeperView) : Type 0 where
   pub cause : told → Rose old.faults new.faults
   pub count : old.faults ≤ new.faults
   pub steady : ¬ told → new.faults ≡ old.faults
@@ -26,25 +26,25 @@ pub record Blames (told : Type 0) (old new : Shelf) : Type 0 where
 
 -- What every call does: it reports whether the keeper failed,
 -- and it uses up no room if it did not do what it was asked.
-pub record IsCall {X : Type 0} (old new : Shelf) (result : Result X KeepFault) : Type 0 where
+pub record IsCall {X : Type 0} (old new : KeeperView) (result : Result X KeepFault) : Type 0 where
   pub blamed : Blames (IsErrOf result Failed) old new
   pub spare_err : OnErr result (old.spare ≤ new.spare)
 
 -- A call that changes no table.
-pub record IsLook {X : Type 0} (old new : Shelf) (result : Result X KeepFault) : Type 0 where
+pub record IsLook {X : Type 0} (old new : KeeperView) (result : Result X KeepFault) : Type 0 where
   pub call : IsCall old new result
   pub told : AreTold old.tables new.tables
   pub spare : OnOk result (new.spare ≡ old.spare)
 
 -- A call that changes the tables in this way, or not at all, and uses the room of that many answers.
-pub record IsPut (edit : Tables → Tables) (used : ℕ) (old new : Shelf) {X : Type 0} (result : Result X KeepFault) : Type 0 where
+pub record IsPut (edit : Tables → Tables) (used : ℕ) (old new : KeeperView) {X : Type 0} (result : Result X KeepFault) : Type 0 where
   pub call : IsCall old new result
   pub ok : OnOk result (AreTold (edit old.tables) new.tables)
   pub err : OnErr result (AreTold old.tables new.tables)
   pub spare : OnOk result (new.spare ≡ old.spare - used)
 
 -- A call that takes room for n answers, if the keeper holds room in advance.
-pub record TakesRoom (n : ℕ) (old new : Shelf) {X : Type 0} (result : Result X KeepFault) : Type 0 where
+pub record TakesRoom (n : ℕ) (old new : KeeperView) {X : Type 0} (result : Result X KeepFault) : Type 0 where
   pub call : IsCall old new result
   pub ok : OnOk result (old.holds_room ≡ true → n ≤ new.spare)
   pub told : AreTold old.tables new.tables

@@ -1,6 +1,6 @@
 -- The keepers in memory, as contracts see them.
 use Rattle.std.specs.Prelude.{true}
-use Rattle.keeper_mem.specs.Keeper.{Shelf}
+use Rattle.keeper_mem.specs.Keeper.{KeeperView}
 use Rattle.std.specs.Prelude.{ℕ, List, Option, Some, None}
 use Rattle.kept_rows.specs.declared.rows.AnswerRow.{AnswerRow}
 use Rattle.kept_rows.specs.declared.rows.AllotRow.{AllotRow}
@@ -29,5 +29,5 @@ abbrev pub fresh_keeper : Tables → List ℕ → FailingMemory
 fresh_keeper tables fail_at = record { memory = record { tables = tables; spare = 0 }; calls = 0; fail_at = fail_at; faults = 0 }
 
 -- the keeper as it is seen
-abbrev pub shelf_of : FailingMemory → Shelf
-shelf_of k = record { tables = k.memory.tables; faults = k.faults; holds_room = true; spare = k.memory.spare }
+abbrev pub keeper_view_of : FailingMemory → KeeperView
+keeper_view_of k = record { tables = k.memory.tables; faults = k.faults; holds_room = true; spare = k.memory.spare }

@@ -3,7 +3,7 @@ ghost use Rattle.std.specs.Prelude.{◌≡◌, ◌≤◌, ◌-◌, ◌↔◌, �
 ghost use Rattle.office_base.specs.Memory.{counted};
 ghost use Rattle.office_base.specs.Outside.{Rose};
 ghost use Rattle.keeper_mem.specs.Keeper.{IsLook, IsPut, TakesRoom};
-ghost use Rattle.keeper_mem.specs.Memory.{fresh_keeper, shelf_of};
+ghost use Rattle.keeper_mem.specs.Memory.{fresh_keeper, keeper_view_of};
 ghost use Rattle.kept_rows.specs.Tables.{NoSeason, Records, with_season, with_answer, with_raise, with_cut, AreTold, IsFound, IsLoaded};
 
 use crate::memory::Memory;
@@ -78,14 +78,14 @@ impl MemKeeper {
 }
 
 impl Keeper for MemKeeper {
-    ghost use Rattle.keeper_mem.specs.Memory.{shelf_of};
+    ghost use Rattle.keeper_mem.specs.Memory.{keeper_view_of};
     ghost use Rattle.std.specs.Prelude.{true};
 
-    ghost seen = { shelf_of };
+    ghost seen = { keeper_view_of };
 
     fn has_season(&mut self) -> Result<bool, KeepFault>
         ensures ok { IfOk result (λ found. IsFound found self.new.memory.tables) }
-        ensures look { IsLook (shelf_of self.old) (shelf_of self.new) result }
+        ensures look { IsLook (keeper_view_of self.old) (keeper_view_of self.new) result }
         // it fails if and only if its number is in the list
         ensures fails { IsErrOf result KeepFault.Failed
             ↔ Contains self.old.fail_at (counted self.old.calls) }
@@ -101,7 +101,7 @@ impl Keeper for MemKeeper {
     fn put_season(&mut self, text: &[u8]) -> Result<(), KeepFault>
         requires { IsFound false self.old.memory.tables }
         ensures put { IsPut (with_season text.now) 0
-            (shelf_of self.old) (shelf_of self.new) result }
+            (keeper_view_of self.old) (keeper_view_of self.new) result }
         // it fails if and only if its number is in the list
         ensures fails { IsErrOf result KeepFault.Failed
             ↔ Contains self.old.fail_at (counted self.old.calls) }
@@ -116,7 +116,7 @@ impl Keeper for MemKeeper {
     }
 
     fn reserve_answers(&mut self, n: u32) -> Result<(), KeepFault>
-        ensures takes { TakesRoom n (shelf_of self.old) (shelf_of self.new) result }
+        ensures takes { TakesRoom n (keeper_view_of self.old) (keeper_view_of self.new) result }
         // it fails if and only if its number is in the list
         ensures fails { IsErrOf result KeepFault.Failed
             ↔ Contains self.old.fail_at (counted self.old.calls) }
@@ -132,7 +132,8 @@ impl Keeper for MemKeeper {
 
     fn put_answer(&mut self, row: AnswerRow) -> Result<(), KeepFault>
         requires { IsFound true self.old.memory.tables }
-        ensures put { IsPut (with_answer row) 1 (shelf_of self.old) (shelf_of self.new) result }
+        ensures put { IsPut (with_answer row) 1 (keeper_view_of self.old)
+            (keeper_view_of self.new) result }
         ensures memory { IsErrOf result KeepFault.OutOfMemory → self.old.memory.spare ≡ 0 }
         // it fails if and only if its number is in the list
         ensures fails { IsErrOf result KeepFault.Failed
@@ -149,7 +150,8 @@ impl Keeper for MemKeeper {
 
     fn put_raise(&mut self, row: RaiseRow) -> Result<(), KeepFault>
         requires { IsFound true self.old.memory.tables }
-        ensures put { IsPut (with_raise row) 0 (shelf_of self.old) (shelf_of self.new) result }
+        ensures put { IsPut (with_raise row) 0 (keeper_view_of self.old)
+            (keeper_view_of self.new) result }
         // it fails if and only if its number is in the list
         ensures fails { IsErrOf result KeepFault.Failed
             ↔ Contains self.old.fail_at (counted self.old.calls) }
@@ -165,7 +167,8 @@ impl Keeper for MemKeeper {
 
     fn put_cut(&mut self, rows: &[AllotRow]) -> Result<(), KeepFault>
         requires { IsFound true self.old.memory.tables }
-        ensures put { IsPut (with_cut rows.now) 0 (shelf_of self.old) (shelf_of self.new) result }
+        ensures put { IsPut (with_cut rows.now) 0 (keeper_view_of self.old)
+            (keeper_view_of self.new) result }
         // it fails if and only if its number is in the list
         ensures fails { IsErrOf result KeepFault.Failed
             ↔ Contains self.old.fail_at (counted self.old.calls) }
@@ -182,7 +185,7 @@ impl Keeper for MemKeeper {
     fn load(&mut self, alloc: Global) -> Result<Option<Kept>, KeepFault>
         ensures ok { IfOk result (λ found. MatchOption found
             (IsFound false self.new.memory.tables) (IsLoaded self.new.memory.tables)) }
-        ensures look { IsLook (shelf_of self.old) (shelf_of self.new) result }
+        ensures look { IsLook (keeper_view_of self.old) (keeper_view_of self.new) result }
         // it fails if and only if its number is in the list
         ensures fails { IsErrOf result KeepFault.Failed
             ↔ Contains self.old.fail_at (counted self.old.calls) }

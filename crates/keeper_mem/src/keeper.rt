@@ -26,11 +26,11 @@ impl From<OutOfMemory> for KeepFault {
 /// Keeps the records of one season. An `Err` leaves the tables unchanged,
 /// and no fewer answers can be put without allocating.
 pub trait Keeper {
-    ghost use Rattle.keeper_mem.specs.Keeper.{Shelf, IsLook, IsPut, TakesRoom};
+    ghost use Rattle.keeper_mem.specs.Keeper.{KeeperView, IsLook, IsPut, TakesRoom};
     ghost use Rattle.kept_rows.specs.Tables.{with_season, with_answer, with_raise, with_cut, IsFound, IsLoaded};
 
     /// What a proof sees of it: its tables, if they are visible, how often it has failed, and its room for answers.
-    ghost seen: { Self → Shelf };
+    ghost seen: { Self → KeeperView };
 
     /// Returns whether a season is kept, by the tables as this call leaves them. The call may hide the tables.
     fn has_season(&mut self) -> Result<bool, KeepFault>

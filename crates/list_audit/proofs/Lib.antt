@@ -10,5 +10,5 @@ mod Rows
 mod SingleExchanges
 mod SoundLists
 mod Standing
-mod Walks
+mod ListPlaces
 mod Worst

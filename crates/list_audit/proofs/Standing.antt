@@ -12,7 +12,7 @@ use Rattle.office_base.specs.declared.person.Person.{Person}
 use Rattle.office_base.proofs.Lists.{all_weaker, all_push}
 use Rattle.placements.specs.Ranks.{AreDistinct}
 use Rattle.list_audit.specs.Clauses.{IsFirstOutside}
-use Rattle.list_audit.proofs.Walks.{split_at_place}
+use Rattle.list_audit.proofs.ListPlaces.{split_at_place}
 
 -- the person is at a place before this one
 abbrev pub StandsBefore : List Person → ℕ → Person → Type 0

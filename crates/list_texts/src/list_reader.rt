@@ -17,7 +17,7 @@ use slot_cert::Cert;
 use std::alloc::Global;
 use std::collections::BTreeSet;
 use std::mem;
-use text_readers::{Lines, begins_whole};
+use text_readers::{LineReader, begins_whole};
 
 /// Holds the text of a list while it is read.
 #[derive(Drop)]
@@ -230,7 +230,7 @@ impl ListReader<'_> {
     }
 }
 
-impl Lines for ListReader<'_> {
+impl LineReader for ListReader<'_> {
     ghost use Rattle.list_texts.specs.ListLines.{Said};
     ghost use Rattle.list_texts.specs.ListReader.{KeepsList, list_grammar, list_left, said_by};
 

@@ -6,7 +6,7 @@ ghost use Rattle.list_texts.specs.ListPieces.{BeginsCount, IsNumberLeft};
 
 use office_text::laws::numbers_are_inverse;
 use office_text::read_number;
-use text_readers::{after, begins_number, cut, left_after};
+use text_readers::{after, begins_number, left_after, split_at_byte};
 
 /// Returns the number up to this one with which bytes begin before a space, and what follows the space.
 pub(crate) fn number_before(high: u32, bytes: &[u8]) -> Option<(u32, &[u8])>
@@ -16,7 +16,7 @@ pub(crate) fn number_before(high: u32, bytes: &[u8]) -> Option<(u32, &[u8])>
         → n ≤ high → bytes.now ≢ decimal n ++ 32 ∷ rest) }
 {
     numbers_are_inverse();
-    let (number, rest) = cut(bytes, b' ')?;
+    let (number, rest) = split_at_byte(bytes, b' ')?;
     let number = read_number(number, 0, high)?;
     Some((number, rest))
 }
@@ -80,7 +80,7 @@ pub(crate) fn past_number<'a>(word: &[u8], high: u32, piece: &'a [u8]) -> Number
 fn past_digits(high: u32, piece: &[u8]) -> NumberLeft<'_>
     ensures { IsNumberLeft [] high piece.now result }
 {
-    match cut(piece, b' ') {
+    match split_at_byte(piece, b' ') {
         Some((number, rest)) => match whole_number(high, number) {
             Some(_) => NumberLeft::Past(rest),
             None => NumberLeft::Apart,

@@ -10,8 +10,8 @@ use Rattle.office_moves.specs.Promise.{KeepsItsWord}
 use Rattle.office_moves.specs.Stands.{Stand}
 use Rattle.office_moves.specs.State.{State, opening}
 use Rattle.office_moves.specs.declared.moves.Entry.{Entry}
-use Rattle.histories.specs.Course.{IsCourse}
-use Rattle.round_cut.specs.Office.{Opened}
+use Rattle.history_laws.specs.Course.{IsCourse}
+use Rattle.round_cut.specs.Office.{OfficeView}
 use Rattle.command_answers.specs.Writes.{IsTextOut, Writes}
 use Rattle.command_answers.specs.declared.status.Status.{Status}
 use Rattle.command_answers.specs.declared.status.Status.TheVariants.{Ok as Done, WriteFault, OutOfMemory, DoorFault}
@@ -134,5 +134,5 @@ handed_in of room held_room before held_before after doors doors' facts held tab
     (subst (λ (n : ℕ). (output : List ℕ) × Appends output written now × EndsServed facts held tables (doors_of of held_room n after doors doors') result output) counts end)
 
 -- The tables represent the same office.
-pub stands_at : {K : Type 0} (one other : Opened K) (tables : Tables) → one ≡ other → Stand one.season one.state tables → Stand other.season other.state tables
-stands_at {K} one other tables same stands = subst (λ (o : Opened K). Stand o.season o.state tables) same stands
+pub stands_at : {K : Type 0} (one other : OfficeView K) (tables : Tables) → one ≡ other → Stand one.season one.state tables → Stand other.season other.state tables
+stands_at {K} one other tables same stands = subst (λ (o : OfficeView K). Stand o.season o.state tables) same stands

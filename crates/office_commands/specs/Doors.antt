@@ -2,7 +2,7 @@
 use Rattle.std.specs.Prelude.{◌≡◌, ℕ, Bool, true, false, List}
 use Rattle.door_crews.specs.Ending.{AllEnded, SomeRose}
 use Rattle.door_crews.specs.Served.{DoorLooks, telling}
-use Rattle.keeper_mem.specs.Keeper.{Shelf}
+use Rattle.keeper_mem.specs.Keeper.{KeeperView}
 use Rattle.office_links.specs.declared.outside.Door.{Ghosts as DoorGhosts}
 use Rattle.office_links.specs.declared.outside.Link.{Ghosts as LinkGhosts}
 use Rattle.office_http.specs.Serving.{DoorsServed}
@@ -30,5 +30,5 @@ module _ {D L : Type 0} (of : DoorLooks D L) where
   }
 
 -- the same, by the ghost members of a door and of its links, and by what is seen of the keeper before and after
-abbrev pub doors_seen : {D L : Type 0} → DoorGhosts D L → LinkGhosts L → Shelf → Shelf → List D → List D → Doors
+abbrev pub doors_seen : {D L : Type 0} → DoorGhosts D L → LinkGhosts L → KeeperView → KeeperView → List D → List D → Doors
 doors_seen d l old new doors doors' = doors_of (telling d l) old.holds_room old.faults new.faults doors doors'

@@ -20,7 +20,7 @@ ghost use Rattle.office_commands.specs.Serve.{EndsServed, IsEndText};
 
 use crate::telling::{served_text, write_served};
 use command_answers::{Status, tell_no_memory};
-use histories::laws::{keeps_its_word, runs_its_course};
+use history_laws::laws::{keeps_its_word, runs_its_course};
 use keeper_mem::Keeper;
 use office_base::{OutOfMemory, Sink};
 use office_http::{OpenGate, Served, serve};

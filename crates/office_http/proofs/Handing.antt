@@ -5,7 +5,7 @@ use Rattle.office_moves.specs.declared.moves.Entry.{Entry}
 use Rattle.http_sessions.specs.declared.counter.Answered.{Answered}
 use Rattle.office_desk.specs.Words.{origin_of}
 use Rattle.office_desk.specs.declared.handles.Desk.{Desk}
-use Rattle.round_cut.specs.Office.{Opened}
+use Rattle.round_cut.specs.Office.{OfficeView}
 use Rattle.http_wire.specs.declared.faults.Fault.{Fault}
 use Rattle.office_desk.specs.Own.{among}
 use Rattle.door_crews.specs.Desk.{Known, AsksDesk}
@@ -23,11 +23,11 @@ ended_so true X Y Z done fails = inr (fails refl)
 ended_so false X Y Z done fails = inl (done refl).0
 
 -- an ask at a desk keeps the desk
-pub asked_there : {K : Type 0} (holds_room : K → Bool) (x d d' : Desk (Opened K) Entry) (p p' : Known Entry) (token : Option (List ℕ)) (ask : Ask) (r : Result Answered Fault) → d ≡ x
+pub asked_there : {K : Type 0} (holds_room : K → Bool) (x d d' : Desk (OfficeView K) Entry) (p p' : Known Entry) (token : Option (List ℕ)) (ask : Ask) (r : Result Answered Fault) → d ≡ x
     → (d' ≡ d) × AsksInTurn (origin_of d).season (holds_room (origin_of d).keeper) p token ask r p'
     → (d' ≡ x) × AsksDesk (AnswersAt (origin_of x).season) (UnanswersAt (origin_of x).season (holds_room (origin_of x).keeper)) p token ask r p'
 asked_there holds_room x d d' p p' token ask r is a =
-    (a.0 ∙ is, subst (λ (k : Desk (Opened _) Entry). AsksInTurn (origin_of k).season (holds_room (origin_of k).keeper) p token ask r p') is a.1)
+    (a.0 ∙ is, subst (λ (k : Desk (OfficeView _) Entry). AsksInTurn (origin_of k).season (holds_room (origin_of k).keeper) p token ask r p') is a.1)
 
 -- of two counts the larger one stays
 pub first_no_more : (a b c : ℕ) (X Y : Type 0) → ((a ≤ b) × (c ≡ b) × X) ⊎ ((b ≤ a) × (c ≡ a) × Y) → a ≤ c

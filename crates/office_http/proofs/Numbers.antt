@@ -2,13 +2,13 @@
 use Rattle.std.proofs.Common.{◌≡◌, ◌≤◌, ◌+◌, ℕ, List, [], ◌∷◌, ◌++◌, Option, Some, None, Result, Ok, Err, map, refl, sym, ap, subst, arith}
 use Rattle.office_base.specs.Numbered.{last_from}
 use Rattle.office_base.specs.declared.asks.Ask.{Ask}
-use Rattle.keeper_mem.specs.Keeper.{Shelf}
+use Rattle.keeper_mem.specs.Keeper.{KeeperView}
 use Rattle.office_moves.specs.Decided.{decided}
 use Rattle.office_moves.specs.History.{grown, newly}
 use Rattle.office_moves.specs.declared.moves.Act.{Act}
 use Rattle.office_moves.specs.declared.moves.Entry.{Entry}
 use Rattle.proceedings.specs.Proceeding.{last_of}
-use Rattle.round_cut.specs.Office.{Opened}
+use Rattle.round_cut.specs.Office.{OfficeView}
 use Rattle.http_wire.specs.declared.faults.Fault.{Fault}
 use Rattle.http_sessions.specs.declared.counter.Answered.{Answered}
 use Rattle.office_http.specs.Asking.{AsksOffice, request_of}
@@ -24,9 +24,9 @@ last_of_grown entries number (Some act) e =
     let last = last_from_more 0 entries (record { number = number; act = act }) in
     omega (arith, last, e)
 
-module _ {K : Type 0} (seen : K → Shelf) where
+module _ {K : Type 0} (seen : K → KeeperView) where
   -- an ask under the next number raises the last number by one at most
-  pub last_after : (number : ℕ) (token : Option (List ℕ)) (ask : Ask) (result : Result Answered Fault) (old new : Opened K) → AsksOffice seen number token ask result old new
+  pub last_after : (number : ℕ) (token : Option (List ℕ)) (ask : Ask) (result : Result Answered Fault) (old new : OfficeView K) → AsksOffice seen number token ask result old new
       → number ≡ last_of old.entries + 1 → last_of new.entries ≤ last_of old.entries + 1
   last_after number token ask (Ok answered) old new asked next =
       subst (λ entries. last_of entries ≤ last_of old.entries + 1) (sym asked.entries)

@@ -4,7 +4,7 @@ use Rattle.office_desk.specs.Own.{AppendsAtMost, Begins}
 use Rattle.door_crews.specs.Desk.{Known}
 use Rattle.office_http.specs.Knowing.{AsksInTurn}
 use Rattle.http_sessions.specs.declared.counter.Answered.{Answered}
-use Rattle.keeper_mem.specs.Keeper.{Shelf}
+use Rattle.keeper_mem.specs.Keeper.{KeeperView}
 use Rattle.office_http.specs.Asking.{AsksOffice, HasAnswered, HasNotAnswered, IsAnsweredAt, IsUnanswered, request_of}
 use Rattle.office_base.specs.Outside.{Rose}
 use Rattle.office_base.specs.declared.asks.Ask.{Ask}
@@ -13,33 +13,33 @@ use Rattle.office_moves.specs.Decided.{decided}
 use Rattle.office_moves.specs.History.{grown, newly}
 use Rattle.office_moves.specs.declared.moves.Act.{Act}
 use Rattle.office_moves.specs.declared.moves.Entry.{Entry}
-use Rattle.round_cut.specs.Office.{Opened}
+use Rattle.round_cut.specs.Office.{OfficeView}
 use Rattle.http_wire.specs.declared.faults.Fault.{Fault}
 use Rattle.http_wire.specs.declared.faults.Fault.TheVariants.{Keeper, Memory}
 
 -- ---- the office
 
 -- the basis of an office at a desk
-abbrev pub basis_of : {K : Type 0} → (K → Shelf) → Opened K → SeasonFacts × Bool
-basis_of shelf office = (office.season, (shelf office.keeper).holds_room)
+abbrev pub basis_of : {K : Type 0} → (K → KeeperView) → OfficeView K → SeasonFacts × Bool
+basis_of keeper_view office = (office.season, (keeper_view office.keeper).holds_room)
 
 appends_grown : (entries after : List Entry) (number : ℕ) (act : Option Act) → after ≡ grown entries number act → AppendsAtMost (λ e. e.number) number entries after
 appends_grown entries after number None e = inl e
 appends_grown entries after number (Some act) e = inr (record { number = number; act = act }, refl, e)
 
-module _ {K : Type 0} (shelf : K → Shelf) where
+module _ {K : Type 0} (keeper_view : K → KeeperView) where
   -- the office may be put back
-  asked_leaves : (number : ℕ) (token : Option (List ℕ)) (ask : Ask) (result : Result Answered Fault) (old new : Opened K) → AsksOffice shelf number token ask result old new
-      → (basis_of shelf new ≡ basis_of shelf old) × AppendsAtMost (λ e. e.number) number old.entries new.entries × ((shelf old.keeper).faults ≤ (shelf new.keeper).faults)
+  asked_leaves : (number : ℕ) (token : Option (List ℕ)) (ask : Ask) (result : Result Answered Fault) (old new : OfficeView K) → AsksOffice keeper_view number token ask result old new
+      → (basis_of keeper_view new ≡ basis_of keeper_view old) × AppendsAtMost (λ e. e.number) number old.entries new.entries × ((keeper_view old.keeper).faults ≤ (keeper_view new.keeper).faults)
   asked_leaves number token ask (Ok answered) old new asked = ((λ i. (asked.season i, asked.room i)), appends_grown old.entries new.entries number (newly old.state.now (decided old.season old.state (request_of old.season token ask))) asked.entries, omega (arith, asked.steady))
   asked_leaves number token ask (Err fault) old new asked = ((λ i. (asked.season i, asked.room i)), inl asked.entries, asked.count)
 
   -- the same, by what the job was shown
-  pub asked_puts_back : (number : ℕ) (token : Option (List ℕ)) (ask : Ask) (result : Result Answered Fault) (shown held put : Opened K) → shown ≡ held
-      → AsksOffice shelf number token ask result shown put
-      → (basis_of shelf put ≡ basis_of shelf held) × AppendsAtMost (λ e. e.number) number held.entries put.entries × ((shelf held.keeper).faults ≤ (shelf put.keeper).faults)
+  pub asked_puts_back : (number : ℕ) (token : Option (List ℕ)) (ask : Ask) (result : Result Answered Fault) (shown held put : OfficeView K) → shown ≡ held
+      → AsksOffice keeper_view number token ask result shown put
+      → (basis_of keeper_view put ≡ basis_of keeper_view held) × AppendsAtMost (λ e. e.number) number held.entries put.entries × ((keeper_view held.keeper).faults ≤ (keeper_view put.keeper).faults)
   asked_puts_back number token ask result shown held put same asked =
-      subst (λ o. (basis_of shelf put ≡ basis_of shelf o) × AppendsAtMost (λ e. e.number) number o.entries put.entries × ((shelf o.keeper).faults ≤ (shelf put.keeper).faults)) same
+      subst (λ o. (basis_of keeper_view put ≡ basis_of keeper_view o) × AppendsAtMost (λ e. e.number) number o.entries put.entries × ((keeper_view o.keeper).faults ≤ (keeper_view put.keeper).faults)) same
       (asked_leaves number token ask result shown put asked)
 
 -- ---- the pass
@@ -51,18 +51,18 @@ not_longer xs ys e same more =
     omega (arith, lengths, sum)
 
 -- what a turn says of a pass, by what it knows before and after it
-pub record HasTurned {K : Type 0} (shelf : K → Shelf) (number : ℕ) (held left : Opened K) (p p' : Known Entry) : Type 0 where
+pub record HasTurned {K : Type 0} (keeper_view : K → KeeperView) (number : ℕ) (held left : OfficeView K) (p p' : Known Entry) : Type 0 where
   pub begins : Begins p.seen held.entries
-  pub counts : p.count ≤ (shelf held.keeper).faults
+  pub counts : p.count ≤ (keeper_view held.keeper).faults
   pub shares : p'.shares ≡ p.shares
   pub seen : p'.seen ≡ left.entries
   pub own : ((left.entries ≡ held.entries) × (p'.own ≡ p.own)) ⊎ ((e : Entry) × (e.number ≡ number) × (left.entries ≡ held.entries ++ e ∷ []) × (p'.own ≡ p.own ++ e ∷ []))
-  pub found : p'.found ≡ (shelf held.keeper).faults
-  pub count : p'.count ≡ (shelf left.keeper).faults
+  pub found : p'.found ≡ (keeper_view held.keeper).faults
+  pub count : p'.count ≡ (keeper_view left.keeper).faults
 
-module _ {K : Type 0} (shelf : K → Shelf) where
-  answered_in_turn : (number : ℕ) (token : Option (List ℕ)) (ask : Ask) (answered : Answered) (held left : Opened K) (p p' : Known Entry) → HasTurned shelf number held left p p'
-      → HasAnswered shelf number (request_of held.season token ask) answered held left → AsksInTurn held.season (shelf held.keeper).holds_room p token ask (Ok answered) p'
+module _ {K : Type 0} (keeper_view : K → KeeperView) where
+  answered_in_turn : (number : ℕ) (token : Option (List ℕ)) (ask : Ask) (answered : Answered) (held left : OfficeView K) (p p' : Known Entry) → HasTurned keeper_view number held left p p'
+      → HasAnswered keeper_view number (request_of held.season token ask) answered held left → AsksInTurn held.season (keeper_view held.keeper).holds_room p token ask (Ok answered) p'
   answered_in_turn number token ask answered held left p p' turned asked = go turned.own
     where
       at : (added : List Entry) → left.entries ≡ held.entries ++ added → IsAnsweredAt held.season held.entries (request_of held.season token ask) answered added
@@ -84,7 +84,7 @@ module _ {K : Type 0} (shelf : K → Shelf) where
       counts = subst (λ n. p.count ≤ n) (sym (turned.count ∙ asked.steady)) turned.counts
 
       go : ((left.entries ≡ held.entries) × (p'.own ≡ p.own)) ⊎ ((e : Entry) × (e.number ≡ number) × (left.entries ≡ held.entries ++ e ∷ []) × (p'.own ≡ p.own ++ e ∷ []))
-          → AsksInTurn held.season (shelf held.keeper).holds_room p token ask (Ok answered) p'
+          → AsksInTurn held.season (keeper_view held.keeper).holds_room p token ask (Ok answered) p'
       go (inl none) = (
         held.entries,
         [],
@@ -109,51 +109,51 @@ module _ {K : Type 0} (shelf : K → Shelf) where
       )
 
   -- nothing of the pass's own was added
-  own_stays : (number : ℕ) (held left : Opened K) (p p' : Known Entry) → HasTurned shelf number held left p p' → left.entries ≡ held.entries → p'.own ≡ p.own
+  own_stays : (number : ℕ) (held left : OfficeView K) (p p' : Known Entry) → HasTurned keeper_view number held left p p' → left.entries ≡ held.entries → p'.own ≡ p.own
   own_stays number held left p p' turned same = go turned.own
     where
       go : ((left.entries ≡ held.entries) × (p'.own ≡ p.own)) ⊎ ((e : Entry) × (e.number ≡ number) × (left.entries ≡ held.entries ++ e ∷ []) × (p'.own ≡ p.own ++ e ∷ [])) → p'.own ≡ p.own
       go (inl none) = none.1
       go (inr one) = absurd (not_longer held.entries left.entries one.0 same one.2)
 
-  unanswered_in_turn : (number : ℕ) (token : Option (List ℕ)) (ask : Ask) (fault : Fault) (held left : Opened K) (p p' : Known Entry) → HasTurned shelf number held left p p'
-      → HasNotAnswered shelf (request_of held.season token ask) fault held left → AsksInTurn held.season (shelf held.keeper).holds_room p token ask (Err fault) p'
+  unanswered_in_turn : (number : ℕ) (token : Option (List ℕ)) (ask : Ask) (fault : Fault) (held left : OfficeView K) (p p' : Known Entry) → HasTurned keeper_view number held left p p'
+      → HasNotAnswered keeper_view (request_of held.season token ask) fault held left → AsksInTurn held.season (keeper_view held.keeper).holds_room p token ask (Err fault) p'
   unanswered_in_turn number token ask Keeper held left p p' turned asked =
       let now_seen : p'.seen ≡ held.entries = turned.seen ∙ asked.entries in (
         subst (λ es. Begins p.seen es) (sym now_seen) turned.begins,
-        subst (λ es. IsUnanswered held.season (shelf held.keeper).holds_room es (request_of held.season token ask) Keeper) (sym now_seen) asked.unanswered,
+        subst (λ es. IsUnanswered held.season (keeper_view held.keeper).holds_room es (request_of held.season token ask) Keeper) (sym now_seen) asked.unanswered,
         own_stays number held left p p' turned asked.entries,
         subst (λ n. p.count ≤ n) (sym turned.found) turned.counts,
-        subst (λ n. Rose n p'.count) (sym turned.found) (subst (λ n. Rose (shelf held.keeper).faults n) (sym turned.count) (asked.cause refl)),
+        subst (λ n. Rose n p'.count) (sym turned.found) (subst (λ n. Rose (keeper_view held.keeper).faults n) (sym turned.count) (asked.cause refl)),
         turned.shares,
       )
   unanswered_in_turn number token ask Memory held left p p' turned asked =
       let now_seen : p'.seen ≡ held.entries = turned.seen ∙ asked.entries in (
         subst (λ es. Begins p.seen es) (sym now_seen) turned.begins,
-        subst (λ es. IsUnanswered held.season (shelf held.keeper).holds_room es (request_of held.season token ask) Memory) (sym now_seen) asked.unanswered,
+        subst (λ es. IsUnanswered held.season (keeper_view held.keeper).holds_room es (request_of held.season token ask) Memory) (sym now_seen) asked.unanswered,
         own_stays number held left p p' turned asked.entries,
         subst (λ n. p.count ≤ n) (sym (turned.count ∙ asked.steady refl)) turned.counts,
         turned.found ∙ sym (asked.steady refl) ∙ sym turned.count,
         turned.shares,
       )
 
-  asked_here : (number : ℕ) (token : Option (List ℕ)) (ask : Ask) (result : Result Answered Fault) (held left : Opened K) (p p' : Known Entry) → HasTurned shelf number held left p p'
-      → AsksOffice shelf number token ask result held left → AsksInTurn held.season (shelf held.keeper).holds_room p token ask result p'
+  asked_here : (number : ℕ) (token : Option (List ℕ)) (ask : Ask) (result : Result Answered Fault) (held left : OfficeView K) (p p' : Known Entry) → HasTurned keeper_view number held left p p'
+      → AsksOffice keeper_view number token ask result held left → AsksInTurn held.season (keeper_view held.keeper).holds_room p token ask result p'
   asked_here number token ask (Ok answered) held left p p' turned asked = answered_in_turn number token ask answered held left p p' turned asked
   asked_here number token ask (Err fault) held left p p' turned asked = unanswered_in_turn number token ask fault held left p p' turned asked
 
   -- a turn in which an ask was put to an office of this season is an ask at the desk
-  pub asked_in_turn : (basis : SeasonFacts × Bool) (number : ℕ) (token : Option (List ℕ)) (ask : Ask) (result : Result Answered Fault) (held left : Opened K) (p p' : Known Entry)
-      → basis_of shelf held ≡ basis → HasTurned shelf number held left p p' → AsksOffice shelf number token ask result held left
+  pub asked_in_turn : (basis : SeasonFacts × Bool) (number : ℕ) (token : Option (List ℕ)) (ask : Ask) (result : Result Answered Fault) (held left : OfficeView K) (p p' : Known Entry)
+      → basis_of keeper_view held ≡ basis → HasTurned keeper_view number held left p p' → AsksOffice keeper_view number token ask result held left
       → AsksInTurn basis.0 basis.1 p token ask result p'
   asked_in_turn basis number token ask result held left p p' same turned asked =
       subst (λ b. AsksInTurn b.0 b.1 p token ask result p') same (asked_here number token ask result held left p p' turned asked)
 
   -- the same, by what the job was shown and what it left
-  pub asked_at_desk : (basis : SeasonFacts × Bool) (number : ℕ) (token said : Option (List ℕ)) (ask : Ask) (result : Result Answered Fault) (shown held left put : Opened K) (p p' : Known Entry)
-      → token ≡ said → shown ≡ held → left ≡ put → basis_of shelf held ≡ basis → HasTurned shelf number held put p p' → AsksOffice shelf number said ask result shown left
+  pub asked_at_desk : (basis : SeasonFacts × Bool) (number : ℕ) (token said : Option (List ℕ)) (ask : Ask) (result : Result Answered Fault) (shown held left put : OfficeView K) (p p' : Known Entry)
+      → token ≡ said → shown ≡ held → left ≡ put → basis_of keeper_view held ≡ basis → HasTurned keeper_view number held put p p' → AsksOffice keeper_view number said ask result shown left
       → AsksInTurn basis.0 basis.1 p token ask result p'
   asked_at_desk basis number token said ask result shown held left put p p' spelt shows leaves same turned asked =
-      let one : AsksOffice shelf number token ask result shown left = subst (λ t. AsksOffice shelf number t ask result shown left) (sym spelt) asked in
-      let two : AsksOffice shelf number token ask result held left = subst (λ o. AsksOffice shelf number token ask result o left) shows one in
-      asked_in_turn basis number token ask result held put p p' same turned (subst (λ o. AsksOffice shelf number token ask result held o) leaves two)
+      let one : AsksOffice keeper_view number token ask result shown left = subst (λ t. AsksOffice keeper_view number t ask result shown left) (sym spelt) asked in
+      let two : AsksOffice keeper_view number token ask result held left = subst (λ o. AsksOffice keeper_view number token ask result o left) shows one in
+      asked_in_turn basis number token ask result held put p p' same turned (subst (λ o. AsksOffice keeper_view number token ask result held o) leaves two)

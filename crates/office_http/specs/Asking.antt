@@ -5,7 +5,7 @@ use Rattle.office_base.specs.declared.asks.Ask.{Ask}
 use Rattle.office_base.specs.declared.asks.By.{By}
 use Rattle.office_base.specs.declared.asks.By.TheVariants.{Nobody}
 use Rattle.office_base.specs.declared.asks.Request.{Request}
-use Rattle.keeper_mem.specs.Keeper.{Shelf}
+use Rattle.keeper_mem.specs.Keeper.{KeeperView}
 use Rattle.kept_rows.specs.Tables.{AreTold, IsTold}
 use Rattle.office_moves.specs.Facts.{SeasonFacts}
 use Rattle.office_moves.specs.State.{State}
@@ -18,7 +18,7 @@ use Rattle.office_moves.specs.declared.moves.Reply.{Reply}
 use Rattle.proceedings.specs.Told.{takes_nothing}
 use Rattle.reply_bodies.specs.Bodies.{reply_body}
 use Rattle.reply_bodies.specs.Status.{status_of}
-use Rattle.round_cut.specs.Office.{Opened, who_by, withdraws}
+use Rattle.round_cut.specs.Office.{OfficeView, who_by, withdraws}
 use Rattle.shown_replies.specs.Shown.{round_shown, rows_shown}
 use Rattle.http_wire.specs.declared.faults.Fault.{Fault}
 use Rattle.http_wire.specs.declared.faults.Fault.TheVariants.{Keeper, Memory}
@@ -80,11 +80,11 @@ UnanswersAt facts room place token ask fault = IsUnanswered facts room place (re
 
 -- ---- one ask of an office
 
-module _ {K : Type 0} (seen : K → Shelf) where
+module _ {K : Type 0} (seen : K → KeeperView) where
   -- The office answered a request under this number. The move begins where the last one ended.
   -- The answer is that of the move's reply.
   -- What is newly accepted is kept and is the last entry, and the keeper did not fail.
-  pub record HasAnswered (number : ℕ) (request : Request) (answered : Answered) (old new : Opened K) : Type 0 where
+  pub record HasAnswered (number : ℕ) (request : Request) (answered : Answered) (old new : OfficeView K) : Type 0 where
     pub reply : Reply
     pub history : IsHistory old.season old.entries old.state
     pub moves : IsMove old.season old.state request reply new.state
@@ -98,7 +98,7 @@ module _ {K : Type 0} (seen : K → Shelf) where
 
   -- The office did not answer a request: the office and the visible tables of its keeper are unchanged.
   -- The keeper failed if and only if that is the fault.
-  pub record HasNotAnswered (request : Request) (fault : Fault) (old new : Opened K) : Type 0 where
+  pub record HasNotAnswered (request : Request) (fault : Fault) (old new : OfficeView K) : Type 0 where
     pub unanswered : IsUnanswered old.season (seen old.keeper).holds_room old.entries request fault
     pub entries : new.entries ≡ old.entries
     pub state : new.state ≡ old.state
@@ -111,6 +111,6 @@ module _ {K : Type 0} (seen : K → Shelf) where
     pub steady : fault ≡ Memory → (seen new.keeper).faults ≡ (seen old.keeper).faults
 
   -- an ask with its token, put to an office under a number: its answer, and the office before and after it
-  abbrev pub AsksOffice : ℕ → Option (List ℕ) → Ask → Result Answered Fault → Opened K → Opened K → Type 0
+  abbrev pub AsksOffice : ℕ → Option (List ℕ) → Ask → Result Answered Fault → OfficeView K → OfficeView K → Type 0
   AsksOffice number token ask (Ok answered) old new = HasAnswered number (request_of old.season token ask) answered old new
   AsksOffice number token ask (Err fault) old new = HasNotAnswered (request_of old.season token ask) fault old new

@@ -1,12 +1,12 @@
 -- An office that is served to doors.
 use Rattle.std.specs.Prelude.{◌≡◌, ℕ, Bool, true, false, List}
-use Rattle.keeper_mem.specs.Keeper.{Shelf}
+use Rattle.keeper_mem.specs.Keeper.{KeeperView}
 use Rattle.office_moves.specs.Facts.{SeasonFacts}
 use Rattle.office_moves.specs.declared.moves.Entry.{Entry}
 use Rattle.office_http.specs.Asking.{AnswersAt, UnanswersAt}
 use Rattle.door_crews.specs.Ending.{AllEnded, SomeRose}
 use Rattle.door_crews.specs.Served.{DoorLooks, AllDoorsServed}
-use Rattle.round_cut.specs.Office.{Opened}
+use Rattle.round_cut.specs.Office.{OfficeView}
 
 -- All doors are served by the office of this season, over a keeper that holds room in advance or does not:
 -- from the history A and the keeper's count c to the history H and the count k.
@@ -15,7 +15,7 @@ DoorsServed facts room {D} {L} of A c doors doors' H k = AllDoorsServed (Answers
 
 -- The doors were served by an office, which then is this one: its season and its room for answers are as before.
 -- It is told whether a door failed. If none did, no connection is still to come.
-pub record Serves {K D L : Type 0} (seen : K → Shelf) (of : DoorLooks D L) (before after : Opened K) (door_failed : Bool) (doors doors' : List D) : Type 0 where
+pub record Serves {K D L : Type 0} (seen : K → KeeperView) (of : DoorLooks D L) (before after : OfficeView K) (door_failed : Bool) (doors doors' : List D) : Type 0 where
   pub season : after.season ≡ before.season
   pub room : (seen after.keeper).holds_room ≡ (seen before.keeper).holds_room
   pub served : DoorsServed before.season (seen before.keeper).holds_room of before.entries (seen before.keeper).faults doors doors' after.entries (seen after.keeper).faults

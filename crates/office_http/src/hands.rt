@@ -37,20 +37,20 @@ pub struct DeskWorker<V: Booked> {
 
 impl<K: Keeper, B: TablesBefore, G: Gate, D: Door> Crew<Shared<'_, DeskOffice<K, B>, G>, D, Buffers>
     for DeskWorker<DeskOffice<K, B>> {
-    ghost suits = { λ door. D.to_come door ≤ most_connections };
+    ghost may_be_served = { λ door. D.to_come door ≤ most_connections };
 
-    ghost able = { λ shop n hand. belongs shop.desk.now hand.pass × (n + 1 ≤ shares_of hand.pass) × (n * most_turns ≤ left_of hand.pass) };
+    ghost may_hire = { λ shop n hand. belongs shop.desk.now hand.pass × (n + 1 ≤ shares_of hand.pass) × (n * most_turns ≤ left_of hand.pass) };
 
-    ghost ready = { λ shop hand. belongs shop.desk.now hand.pass × (1 ≤ shares_of hand.pass) × (most_turns ≤ left_of hand.pass) };
+    ghost may_work = { λ shop hand. belongs shop.desk.now hand.pass × (1 ≤ shares_of hand.pass) × (most_turns ≤ left_of hand.pass) };
 
-    ghost hired = { λ shop p q w. IsHired (worker_of p) (worker_of q) (worker_of w) };
+    ghost after_hire = { λ shop p q w. IsHired (worker_of p) (worker_of q) (worker_of w) };
 
-    ghost worked = { λ shop number door door' w w'. HasWorked (AnswersAt (origin_of shop.desk.now).season)
+    ghost after_work = { λ shop number door door' w w'. HasWorked (AnswersAt (origin_of shop.desk.now).season)
         (UnanswersAt (origin_of shop.desk.now).season (K.seen (origin_of shop.desk.now).keeper).holds_room)
         (telling D.Door D.Conn.Link)
         number door door' (worker_of w) (worker_of w') };
 
-    ghost joined = { λ shop m w p. IsTakenIn (worker_of m) (worker_of w) (worker_of p) };
+    ghost after_return = { λ shop m w p. IsTakenIn (worker_of m) (worker_of w) (worker_of p) };
 
     fn hire(&mut self, shop: &Shared<'_, DeskOffice<K, B>, G>) -> Self {
         let Ok(pass) = self.pass.split(shop.desk, TURNS) else {

@@ -99,7 +99,7 @@ fn can_be_written<K: Keeper>(office: &Office<K>, reply: &Reply)
     ensures { CanBeShown office.now.season office.now.state reply.now }
 {
     let _entries = office.entries();
-    histories::laws::orderly();
+    history_laws::laws::orderly();
     replies_can_be_shown();
     says_what_is_sound(office.season());
     let _reply = reply;

@@ -38,9 +38,9 @@ pub struct DeskOffice<K: Keeper, B: TablesBefore> {
 impl<K: Keeper, B: TablesBefore> Model for DeskOffice<K, B> {
     ghost use Rattle.kept_rows.specs.Tables.{IsTold};
     ghost use Rattle.office_http.specs.Bodies.{AreBodies};
-    ghost use Rattle.round_cut.specs.Office.{Opened};
+    ghost use Rattle.round_cut.specs.Office.{OfficeView};
 
-    ghost Value = { Opened K };
+    ghost Value = { OfficeView K };
 
     ghost view = { λ a. a.office };
 

@@ -13,10 +13,10 @@ use Rattle.kept_rows.specs.declared.rows.AnswerRow.{AnswerRow}
 use Rattle.kept_rows.specs.declared.rows.RaiseRow.{RaiseRow}
 use Rattle.office_moves.specs.Judge.{is_candidate, is_clerk, is_gone, is_withdraw, judge_answer, judge_cut, judge_new_answer, judge_new_seats, judge_next_answer, judge_raise, not_open, once_more, refuse_as, refuse_if, same_choice, with_programme}
 use Rattle.office_moves.specs.History.{newly}
-use Rattle.office_moves.specs.declared.decide.AnswerLooks.{AnswerLooks}
+use Rattle.office_moves.specs.declared.decide.AnswerFacts.{AnswerFacts}
 use Rattle.office_moves.specs.declared.decide.Decision.{Decision}
 use Rattle.office_moves.specs.declared.decide.Decision.TheVariants.{Refuse, NotedAgain, RaisedAgain, CutAgain, Note, Lift, Publish, Finish}
-use Rattle.office_moves.specs.declared.decide.RaiseLooks.{RaiseLooks}
+use Rattle.office_moves.specs.declared.decide.RaiseFacts.{RaiseFacts}
 use Rattle.office_moves.specs.declared.moves.Act.{Act}
 use Rattle.office_moves.specs.declared.refusal.Refusal.{Refusal}
 use Rattle.office_moves.specs.declared.refusal.Refusal.TheVariants.{Ahead, Denied, Gap, LastWindow, TurnUsed, UnknownCandidate}
@@ -24,7 +24,7 @@ use Rattle.office_moves.specs.declared.refusal.Refusal.TheVariants.{Ahead, Denie
 -- ---- an answer
 
 -- an answer that is newly accepted: its candidate is known and gives it, nothing was accepted at its turn, its window is open, its turn is the next, and it is noted
-pub record IsNewAnswer (looks : AnswerLooks) (by : By) (row : AnswerRow) : Type 0 where
+pub record IsNewAnswer (looks : AnswerFacts) (by : By) (row : AnswerRow) : Type 0 where
   pub known : looks.known ≡ true
   pub own : is_candidate by row.cand ≡ true
   pub fresh : looks.kept ≡ None
@@ -42,7 +42,7 @@ next_chain now false false true many how first second third row act h = absurd (
 next_chain now false false false true how first second third row act h = absurd (cc)
 next_chain now false false false false how first second third row act h = refl
 
-next_new : (now : ℕ) (looks : AnswerLooks) (row : AnswerRow) (act : Act) → newly now (judge_next_answer looks row) ≡ Some act → judge_next_answer looks row ≡ Note row
+next_new : (now : ℕ) (looks : AnswerFacts) (row : AnswerRow) (act : Act) → newly now (judge_next_answer looks row) ≡ Some act → judge_next_answer looks row ≡ Note row
 next_new now looks row act h =
     next_chain now (is_gone looks.standing) (not looks.seated && not (is_withdraw row.choice)) (not (may_follow looks.left row.choice)) (nat_lt most_turns row.turn && not (is_withdraw row.choice))
     _ _ _ _ row act h
@@ -71,7 +71,7 @@ answer_chain now true true None (Some refusal) turn gap row rest act h = absurd 
 answer_chain now true true None None false gap row rest act h = absurd (cc)
 answer_chain now true true None None true gap row rest act h = record { is_known = refl; is_own = refl; is_fresh = refl; is_open = refl; is_turn = refl; is_new = h; is_rest = refl }
 
-pub answer_new : (now : ℕ) (looks : AnswerLooks) (by : By) (row : AnswerRow) (act : Act) → newly now (judge_answer looks by row) ≡ Some act → IsNewAnswer looks by row
+pub answer_new : (now : ℕ) (looks : AnswerFacts) (by : By) (row : AnswerRow) (act : Act) → newly now (judge_answer looks by row) ≡ Some act → IsNewAnswer looks by row
 answer_new now looks by row act h =
     let passed = answer_chain now looks.known (is_candidate by row.cand) looks.kept (not_open looks.window looks.rounds row.window) (row.turn == looks.last + 1) (Gap looks.last) row
     (judge_next_answer looks row) act h in
@@ -93,7 +93,7 @@ again_noted true true (Some choice) row rest e f h =
 again_noted true false kept row rest e f h = absurd (cc)
 again_noted false own kept row rest e f h = absurd (cc)
 
-pub answer_again : (looks : AnswerLooks) (by : By) (row : AnswerRow) → looks.known ≡ true → is_candidate by row.cand ≡ true → looks.kept ≡ Some row.choice
+pub answer_again : (looks : AnswerFacts) (by : By) (row : AnswerRow) → looks.known ≡ true → is_candidate by row.cand ≡ true → looks.kept ≡ Some row.choice
     → judge_answer looks by row ≡ NotedAgain row
 answer_again looks by row known own kept = again_noted looks.known (is_candidate by row.cand) looks.kept row (judge_new_answer looks row) known own kept
 
@@ -148,7 +148,7 @@ cut_again by now rounds window clerk less =
 
 -- ---- a raise
 
-pub record IsNewRaise (looks : RaiseLooks) (by : By) (row : RaiseRow) : Type 0 where
+pub record IsNewRaise (looks : RaiseFacts) (by : By) (row : RaiseRow) : Type 0 where
   pub clerk : is_clerk by ≡ true
   pub fresh : looks.again ≡ false
   pub opened : not_open looks.window looks.rounds row.window ≡ None
@@ -164,7 +164,7 @@ seats_chain now false true many first second third row act h = absurd (cc)
 seats_chain now false false true first second third row act h = absurd (cc)
 seats_chain now false false false first second third row act h = refl
 
-seats_new : (now : ℕ) (looks : RaiseLooks) (row : RaiseRow) (act : Act) → newly now (judge_new_seats looks row) ≡ Some act → judge_new_seats looks row ≡ Lift row
+seats_new : (now : ℕ) (looks : RaiseFacts) (row : RaiseRow) (act : Act) → newly now (judge_new_seats looks row) ≡ Some act → judge_new_seats looks row ≡ Lift row
 seats_new now looks row act h =
     seats_chain now (is_dereserved row.step) (nat_le row.seats looks.seats) (nat_lt most_step_seats row.seats || nat_lt most_matrix_seats (looks.total - looks.seats + row.seats))
     _ _ _ row act h
@@ -186,7 +186,7 @@ raise_chain now true false (Some refusal) last row rest act h = absurd (cc)
 raise_chain now true false None true row rest act h = absurd (cc)
 raise_chain now true false None false row rest act h = record { is_clerk = refl; is_fresh = refl; is_open = refl; is_before = refl; is_new = h; is_rest = refl }
 
-pub raise_new : (now : ℕ) (looks : RaiseLooks) (by : By) (row : RaiseRow) (act : Act) → newly now (judge_raise looks by row) ≡ Some act → IsNewRaise looks by row
+pub raise_new : (now : ℕ) (looks : RaiseFacts) (by : By) (row : RaiseRow) (act : Act) → newly now (judge_raise looks by row) ≡ Some act → IsNewRaise looks by row
 raise_new now looks by row act h =
     let passed = raise_chain now (is_clerk by) looks.again (not_open looks.window looks.rounds row.window) (row.window == looks.rounds) row (judge_new_seats looks row) act h in
     let lifted = seats_new now looks row act passed.is_new in
@@ -197,7 +197,7 @@ past_raise true true row rest e f = refl
 past_raise true false row rest e f = absurd (cc)
 past_raise false again row rest e f = absurd (cc)
 
-pub raise_again : (looks : RaiseLooks) (by : By) (row : RaiseRow) → is_clerk by ≡ true → looks.again ≡ true → judge_raise looks by row ≡ RaisedAgain row
+pub raise_again : (looks : RaiseFacts) (by : By) (row : RaiseRow) → is_clerk by ≡ true → looks.again ≡ true → judge_raise looks by row ≡ RaisedAgain row
 raise_again looks by row clerk again =
     past_raise (is_clerk by) looks.again row (refuse_as (not_open looks.window looks.rounds row.window) (refuse_if (row.window == looks.rounds) LastWindow (judge_new_seats looks row))) clerk again
 

@@ -18,14 +18,14 @@ use Rattle.round_options.specs.Options.{may_follow}
 use Rattle.office_moves.specs.Facts.{SeasonFacts, find_programme}
 use Rattle.office_moves.specs.State.{State, view_of}
 use Rattle.office_moves.specs.Judge.{choice_of, is_candidate, is_clerk, is_gone, is_withdraw, judge_answer, judge_cut, judge_list, judge_new_answer, judge_next_answer, judge_own, judge_raise, judge_round, judge_why, may_ask, not_open, once_more, refuse_as, refuse_if, same_choice, with_programme}
-use Rattle.office_moves.specs.Decided.{answer_looks, decided, decided_by, is_chosen_by, is_known, is_question, raise_looks}
+use Rattle.office_moves.specs.Decided.{answer_facts, decided, decided_by, is_chosen_by, is_known, is_question, raise_facts}
 use Rattle.office_moves.specs.History.{newly}
-use Rattle.office_moves.specs.declared.decide.AnswerLooks.{AnswerLooks}
+use Rattle.office_moves.specs.declared.decide.AnswerFacts.{AnswerFacts}
 use Rattle.office_moves.specs.declared.decide.Decision.{Decision}
 use Rattle.office_moves.specs.declared.decide.Decision.TheVariants.{Refuse, NotedAgain, RaisedAgain, CutAgain, Note, Lift, Publish, Finish, Tell}
 use Rattle.office_moves.specs.declared.decide.Question.{Question}
 use Rattle.office_moves.specs.declared.decide.Question.TheVariants.{Seat as TheSeat, Why as TheReason, List as TheList, Round as TheRound, Choices as TheChoices, Cutoffs as TheCutoffs, Register as TheRegister, Answers as TheAnswers, State as TheState}
-use Rattle.office_moves.specs.declared.decide.RaiseLooks.{RaiseLooks}
+use Rattle.office_moves.specs.declared.decide.RaiseFacts.{RaiseFacts}
 use Rattle.office_moves.specs.declared.refusal.Refusal.{Refusal}
 use Rattle.office_moves.specs.declared.refusal.Refusal.TheVariants.{Ahead, Denied, Falling, Gap, Gone, LastWindow, NoSeat, NoSuchRound, NotChosen, SeatLimit, StepFixed, TooManyTurns, TurnUsed, UnknownCandidate, UnknownProgramme, Widening}
 use Rattle.office_moves.proofs.Found.{was_found}
@@ -73,7 +73,7 @@ module _ (P : Decision → Type 0) (refused : (r : Refusal) → P (Refuse r)) wh
   again_or None row rest again follows = follows
   again_or (Some choice) row rest again follows = either (same_choice choice row.choice) (NotedAgain row) (Refuse (TurnUsed choice)) again (refused (TurnUsed choice))
 
-  pub answer_keeps : (looks : AnswerLooks) (by : By) (row : AnswerRow) → P (NotedAgain row) → P (Note row) → P (judge_answer looks by row)
+  pub answer_keeps : (looks : AnswerFacts) (by : By) (row : AnswerRow) → P (NotedAgain row) → P (Note row) → P (judge_answer looks by row)
   answer_keeps looks by row again noted =
       refused_unless looks.known UnknownCandidate _ (λ e.
       refused_unless (is_candidate by row.cand) (Denied 1) _ (λ e.
@@ -95,7 +95,7 @@ module _ (P : Decision → Type 0) (refused : (r : Refusal) → P (Refuse r)) wh
   programme_keeps None rest follows = refused UnknownProgramme
   programme_keeps (Some prog) rest follows = follows prog refl
 
-  pub raise_keeps : (looks : RaiseLooks) (by : By) (row : RaiseRow) → P (RaisedAgain row) → P (Lift row) → P (judge_raise looks by row)
+  pub raise_keeps : (looks : RaiseFacts) (by : By) (row : RaiseRow) → P (RaisedAgain row) → P (Lift row) → P (judge_raise looks by row)
   raise_keeps looks by row again lifted =
       refused_or (not (is_clerk by)) (Denied 4) _ (λ e.
       either looks.again (RaisedAgain row) _ again
@@ -171,12 +171,12 @@ decided_there facts state by ask =
     let P : Decision → Type 0 = NamesThere facts state in
     by_kind (λ a. P (decided_by facts state by a))
     (λ cand window turn choice. let row : AnswerRow = record { window = window; cand = cand; turn = turn; choice = choice } in
-    answer_keeps P (λ r. tt) (answer_looks facts (view_of state cand.0) row) by row tt tt)
+    answer_keeps P (λ r. tt) (answer_facts facts (view_of state cand.0) row) by row tt tt)
     (λ window. cut_keeps P (λ r. tt) by state.now facts.rounds window tt tt tt)
     (λ window code step seats. programme_keeps P (λ r. tt) (find_programme facts code) _
     (λ p found. let row : RaiseRow = record { window = window; prog = p; step = step; seats = seats } in
     let below = (was_found facts code p found).below in
-    raise_keeps P (λ r. tt) (raise_looks facts state row) by row below below))
+    raise_keeps P (λ r. tt) (raise_facts facts state row) by row below below))
     (λ a is. question_there P (λ r. tt) facts state by a is (λ question there. there)) ask
 
 -- a question that a request comes to names what is there

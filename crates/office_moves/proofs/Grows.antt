@@ -11,7 +11,7 @@ use Rattle.rounds.specs.declared.round.Round.{Round}
 use Rattle.office_moves.specs.Facts.{SeasonFacts, find_programme}
 use Rattle.office_moves.specs.State.{State, round_at, view_of}
 use Rattle.office_moves.specs.Raised.{raised_before}
-use Rattle.office_moves.specs.Decided.{answer_looks, decided, decided_by, raise_looks}
+use Rattle.office_moves.specs.Decided.{answer_facts, decided, decided_by, raise_facts}
 use Rattle.office_moves.specs.Moves.{Does, IsMove}
 use Rattle.office_moves.specs.History.{Reaches, asked, newly}
 use Rattle.office_moves.specs.declared.decide.Decision.{Decision}
@@ -97,14 +97,14 @@ was_accepted facts state by ask act =
     by_kind (λ a. newly state.now (decided_by facts state by a) ≡ Some act → Accepted facts state (decided_by facts state by a))
     (λ cand window turn choice h.
     let row : AnswerRow = record { window = window; cand = cand; turn = turn; choice = choice } in
-    Answers row (answer_new state.now (answer_looks facts (view_of state cand.0) row) by row act h).noted)
+    Answers row (answer_new state.now (answer_facts facts (view_of state cand.0) row) by row act h).noted)
     (λ window h.
     let cut = cut_new by state.now facts.rounds window act h in
     elim cut.ends [ inl e ↦ Finishes e.0 e.1 | inr e ↦ Publishes e.0 e.1 ])
     (λ window code step seats h.
     let found = with_new state.now (find_programme facts code) _ act h in
     let row : RaiseRow = record { window = window; prog = found.0; step = step; seats = seats } in
-    let new = raise_new state.now (raise_looks facts state row) by row act found.2 in
+    let new = raise_new state.now (raise_facts facts state row) by row act found.2 in
     Raises row (found.3 ∙ new.lifted))
     (λ a is h. absurd (let e = question_old facts state state.now by a is in cc)) ask
 

@@ -5,7 +5,7 @@ use Rattle.office_base.specs.declared.person.CandId.{CandId}
 use Rattle.kept_rows.specs.declared.rows.AnswerRow.{AnswerRow}
 use Rattle.office_moves.specs.Facts.{SeasonFacts, find_programme}
 use Rattle.office_moves.specs.State.{State, view_of}
-use Rattle.office_moves.specs.Decided.{answer_looks, decide_answer, decide_why, is_chosen_by, is_known}
+use Rattle.office_moves.specs.Decided.{answer_facts, decide_answer, decide_why, is_chosen_by, is_known}
 use Rattle.office_moves.specs.Moves.{Does, answers_reply, seat_reply, why_reply}
 use Rattle.office_moves.specs.Laws.{OwnViewOnly}
 use Rattle.office_moves.specs.declared.decide.Decision.{Decision}
@@ -23,7 +23,7 @@ views a b one cand e same = let is : one ≡ cand = cc in subst (λ z. view_of a
 pub own_view_only : (facts : SeasonFacts) → OwnViewOnly facts
 own_view_only facts a b after then by (Answer one window turn choice) cand reply other e same first second =
     let row : AnswerRow = record { window = window; cand = one; turn = turn; choice = choice } in
-    answer_keeps (HasOne facts a b after then reply other) (λ r x y. x.0 ∙ sym y.0) (answer_looks facts (view_of b one.0) row) by row (λ x y. x.0 ∙ sym y.0) (λ x y. x.0 ∙ sym y.0)
+    answer_keeps (HasOne facts a b after then reply other) (λ r x y. x.0 ∙ sym y.0) (answer_facts facts (view_of b one.0) row) by row (λ x y. x.0 ∙ sym y.0) (λ x y. x.0 ∙ sym y.0)
     (subst (λ view. Does facts a (decide_answer facts view by row) reply after) (views a b one cand e same) first) second
 own_view_only facts a b after then by (Seat one) cand reply other e same first second =
     own_keeps (HasOne facts a b after then reply other) (λ r x y. x.0 ∙ sym y.0) (is_known facts one) by one (TheSeat one)

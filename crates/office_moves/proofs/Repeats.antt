@@ -21,7 +21,7 @@ use Rattle.rounds.specs.declared.round.Round.{Round}
 use Rattle.office_moves.specs.Facts.{SeasonFacts, find_programme}
 use Rattle.office_moves.specs.State.{State, accepted, opening, round_at, rows_of, view_of, with_finals, with_raise, with_row}
 use Rattle.office_moves.specs.Judge.{with_programme}
-use Rattle.office_moves.specs.Decided.{answer_looks, decide_answer, decide_cut, decide_raise, decided, decided_by, raise_looks, same_raise}
+use Rattle.office_moves.specs.Decided.{answer_facts, decide_answer, decide_cut, decide_raise, decided, decided_by, raise_facts, same_raise}
 use Rattle.office_moves.specs.Moves.{Does, IsMove, final_rows, noted, raised_reply, receipt, seated_in}
 use Rattle.office_moves.specs.History.{Reaches, newly}
 use Rattle.office_moves.specs.Laws.{RepeatsOnce}
@@ -89,12 +89,12 @@ answer_repeats : (facts : SeasonFacts) (more : List Entry) (old new later after 
     → newly old.now (decide_answer facts (view_of old row.cand.0) by row) ≡ Some act → Does facts old (decide_answer facts (view_of old row.cand.0) by row) reply new
     → Reaches facts new more later → Does facts later (decide_answer facts (view_of later row.cand.0) by row) again after → Again later reply again after
 answer_repeats facts more old new later after by row act reply again accept first reached second =
-    let n = answer_new old.now (answer_looks facts (view_of old row.cand.0) row) by row act accept in
+    let n = answer_new old.now (answer_facts facts (view_of old row.cand.0) row) by row act accept in
     let did : (reply ≡ noted row) × (new ≡ with_row old row) = subst (λ d. Does facts old d reply new) n.noted first in
     let grown = reaches_grows facts new later more reached in
     let answers : later.answers ≡ (old.answers ++ row ∷ []) ++ grown.answers.0 = grown.answers.1 ∙ ap (λ (s : State). s.answers ++ grown.answers.0) did.1 in
     let kept = accepted_now old later row grown.answers.0 n.fresh answers in
-    let does : (again ≡ noted row) × (after ≡ later) = subst (λ d. Does facts later d again after) (answer_again (answer_looks facts (view_of later row.cand.0) row) by row n.known n.own kept) second in
+    let does : (again ≡ noted row) × (after ≡ later) = subst (λ d. Does facts later d again after) (answer_again (answer_facts facts (view_of later row.cand.0) row) by row n.known n.own kept) second in
     (does.0 ∙ sym did.0, does.1)
 
 -- ---- a raise
@@ -120,13 +120,13 @@ raise_repeats : (facts : SeasonFacts) (more : List Entry) (old new later after :
 raise_repeats facts more old new later after by window code step seats act reply again accept first reached second =
     let found = with_new old.now (find_programme facts code) _ act accept in
     let row : RaiseRow = record { window = window; prog = found.0; step = step; seats = seats } in
-    let n = raise_new old.now (raise_looks facts old row) by row act found.2 in
+    let n = raise_new old.now (raise_facts facts old row) by row act found.2 in
     let did : (reply ≡ raised_reply row) × (new ≡ with_raise old row) = subst (λ d. Does facts old d reply new) (found.3 ∙ n.lifted) first in
     let grown = reaches_grows facts new later more reached in
     let raises : later.raises ≡ (old.raises ++ row ∷ []) ++ grown.raises.0 = grown.raises.1 ∙ ap (λ (s : State). s.raises ++ grown.raises.0) did.1 in
     let known : list_any (same_raise row) later.raises ≡ true = ap (list_any (same_raise row)) raises ∙ raised_now old.raises grown.raises.0 row in
     let again' : decide_raise facts later by window code step seats ≡ RaisedAgain row =
-    with_found (find_programme facts code) found.0 _ found.1 ∙ raise_again (raise_looks facts later row) by row n.clerk known in
+    with_found (find_programme facts code) found.0 _ found.1 ∙ raise_again (raise_facts facts later row) by row n.clerk known in
     let does : (again ≡ raised_reply row) × (after ≡ later) = subst (λ d. Does facts later d again after) again' second in
     (does.0 ∙ sym did.0, does.1)
 

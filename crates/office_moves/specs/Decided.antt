@@ -19,12 +19,12 @@ use Rattle.office_moves.specs.Facts.{SeasonFacts, find_programme}
 use Rattle.office_moves.specs.State.{State, View, accepted, in_window, last_seat, last_turn, left_by, standing_at, view_of}
 use Rattle.office_moves.specs.Raised.{matrix_at, total_seats}
 use Rattle.office_moves.specs.Judge.{judge_answer, judge_cut, judge_list, judge_own, judge_raise, judge_round, judge_why, with_programme}
-use Rattle.office_moves.specs.declared.decide.AnswerLooks.{AnswerLooks}
+use Rattle.office_moves.specs.declared.decide.AnswerFacts.{AnswerFacts}
 use Rattle.office_moves.specs.declared.decide.Decision.{Decision}
 use Rattle.office_moves.specs.declared.decide.Decision.TheVariants.{Tell}
 use Rattle.office_moves.specs.declared.decide.Question.{Question}
 use Rattle.office_moves.specs.declared.decide.Question.TheVariants.{Seat as TheSeat, List as TheList, Choices as TheChoices, Cutoffs as TheCutoffs, Register as TheRegister, Answers as TheAnswers, State as TheState}
-use Rattle.office_moves.specs.declared.decide.RaiseLooks.{RaiseLooks}
+use Rattle.office_moves.specs.declared.decide.RaiseFacts.{RaiseFacts}
 
 -- ---- requests of a candidate: they look at the season and at the candidate's view
 
@@ -33,8 +33,8 @@ abbrev pub is_known : SeasonFacts → CandId → Bool
 is_known facts cand = is_some (find_person cand.0 facts.people)
 
 -- what an answer is judged by
-abbrev pub answer_looks : SeasonFacts → View → AnswerRow → AnswerLooks
-answer_looks facts view row = record {
+abbrev pub answer_facts : SeasonFacts → View → AnswerRow → AnswerFacts
+answer_facts facts view row = record {
   known = is_known facts row.cand;
   kept = accepted row.window row.turn view.rows;
   window = view.now;
@@ -46,7 +46,7 @@ answer_looks facts view row = record {
 }
 
 abbrev pub decide_answer : SeasonFacts → View → By → AnswerRow → Decision
-decide_answer facts view by row = judge_answer (answer_looks facts view row) by row
+decide_answer facts view by row = judge_answer (answer_facts facts view row) by row
 
 abbrev pub decide_own : SeasonFacts → By → CandId → Question → Decision
 decide_own facts by cand question = judge_own (is_known facts cand) by cand question
@@ -77,8 +77,8 @@ abbrev pub same_raise : RaiseRow → RaiseRow → Bool
 same_raise row other = row.window == other.window && row.prog.0 == other.prog.0 && step_number row.step == step_number other.step && row.seats == other.seats
 
 -- what a raise is judged by
-abbrev pub raise_looks : SeasonFacts → State → RaiseRow → RaiseLooks
-raise_looks facts state row = record {
+abbrev pub raise_facts : SeasonFacts → State → RaiseRow → RaiseFacts
+raise_facts facts state row = record {
   again = list_any (same_raise row) state.raises;
   window = state.now;
   rounds = facts.rounds;
@@ -88,7 +88,7 @@ raise_looks facts state row = record {
 
 -- a raise of a programme of the matrix
 abbrev pub decide_raise_of : SeasonFacts → State → By → RaiseRow → Decision
-decide_raise_of facts state by row = judge_raise (raise_looks facts state row) by row
+decide_raise_of facts state by row = judge_raise (raise_facts facts state row) by row
 
 abbrev pub decide_raise : SeasonFacts → State → By → ℕ → List ℕ → StepKind → ℕ → Decision
 decide_raise facts state by window code step seats =

@@ -13,12 +13,12 @@ use Rattle.kept_rows.specs.declared.rows.RaiseRow.{RaiseRow}
 use Rattle.round_options.specs.Options.{may_follow}
 use Rattle.round_options.specs.declared.standing.Standing.{Standing}
 use Rattle.round_options.specs.declared.standing.Standing.TheVariants.{Waiting, Offered, Freeze, Float, Slide, Withdrawn, NoShow}
-use Rattle.office_moves.specs.declared.decide.AnswerLooks.{AnswerLooks}
+use Rattle.office_moves.specs.declared.decide.AnswerFacts.{AnswerFacts}
 use Rattle.office_moves.specs.declared.decide.Decision.{Decision}
 use Rattle.office_moves.specs.declared.decide.Decision.TheVariants.{Refuse, NotedAgain, RaisedAgain, CutAgain, Note, Lift, Publish, Finish, Tell}
 use Rattle.office_moves.specs.declared.decide.Question.{Question}
 use Rattle.office_moves.specs.declared.decide.Question.TheVariants.{Why as TheReason, Round as TheRound}
-use Rattle.office_moves.specs.declared.decide.RaiseLooks.{RaiseLooks}
+use Rattle.office_moves.specs.declared.decide.RaiseFacts.{RaiseFacts}
 use Rattle.office_moves.specs.declared.refusal.Refusal.{Refusal}
 use Rattle.office_moves.specs.declared.refusal.Refusal.TheVariants.{UnknownCandidate, UnknownProgramme, Denied, TurnUsed, Late, Ahead, Gap, Gone, NoSeat, Widening, TooManyTurns, NotChosen, NoSuchRound, LastWindow, StepFixed, Falling, SeatLimit}
 
@@ -91,7 +91,7 @@ choice_of NoShow = ToWithdraw
 -- ---- an answer
 
 -- what comes of an answer of the open window whose turn is the next one
-abbrev pub judge_next_answer : AnswerLooks → AnswerRow → Decision
+abbrev pub judge_next_answer : AnswerFacts → AnswerRow → Decision
 judge_next_answer looks row =
     refuse_if (is_gone looks.standing) (Gone looks.standing)
     (refuse_if (not looks.seated && not (is_withdraw row.choice)) NoSeat
@@ -100,7 +100,7 @@ judge_next_answer looks row =
     (Note row))))
 
 -- what comes of an answer whose window and turn were not accepted before
-abbrev pub judge_new_answer : AnswerLooks → AnswerRow → Decision
+abbrev pub judge_new_answer : AnswerFacts → AnswerRow → Decision
 judge_new_answer looks row =
     refuse_as (not_open looks.window looks.rounds row.window)
     (refuse_if (not (row.turn == looks.last + 1)) (Gap looks.last)
@@ -112,7 +112,7 @@ once_more None row rest = rest
 once_more (Some kept) row rest = if same_choice kept row.choice then NotedAgain row else Refuse (TurnUsed kept)
 
 -- what comes of an answer
-abbrev pub judge_answer : AnswerLooks → By → AnswerRow → Decision
+abbrev pub judge_answer : AnswerFacts → By → AnswerRow → Decision
 judge_answer looks by row =
     refuse_if (not looks.known) UnknownCandidate
     (refuse_if (not (is_candidate by row.cand)) (Denied 1)
@@ -162,7 +162,7 @@ judge_round cuts published round = refuse_if (round == 0 || nat_lt cuts round) (
 -- ---- a raise
 
 -- what comes of a raise of the open window, by its seats
-abbrev pub judge_new_seats : RaiseLooks → RaiseRow → Decision
+abbrev pub judge_new_seats : RaiseFacts → RaiseRow → Decision
 judge_new_seats looks row =
     refuse_if (is_dereserved row.step) StepFixed
     (refuse_if (nat_le row.seats looks.seats) (Falling looks.seats)
@@ -170,7 +170,7 @@ judge_new_seats looks row =
     (Lift row)))
 
 -- what comes of a raise of a programme of the matrix
-abbrev pub judge_raise : RaiseLooks → By → RaiseRow → Decision
+abbrev pub judge_raise : RaiseFacts → By → RaiseRow → Decision
 judge_raise looks by row =
     refuse_if (not (is_clerk by)) (Denied 4)
     (if looks.again then RaisedAgain row

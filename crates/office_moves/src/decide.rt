@@ -56,7 +56,7 @@ pub enum Question {
 
 /// What an answer is judged by.
 #[derive(Clone, Copy, Debug)]
-pub struct AnswerLooks {
+pub struct AnswerFacts {
     /// The candidate is in the register.
     pub known: bool,
     /// The choice that was accepted at this window and turn.
@@ -77,7 +77,7 @@ pub struct AnswerLooks {
 
 /// What a raise of a programme of the matrix is judged by.
 #[derive(Clone, Copy, Debug)]
-pub struct RaiseLooks {
+pub struct RaiseFacts {
     /// This very raise was accepted.
     pub again: bool,
     /// The window that is open.
@@ -91,7 +91,7 @@ pub struct RaiseLooks {
 }
 
 /// What an answer comes to. It takes no memory.
-pub fn judge_answer(looks: &AnswerLooks, by: By, row: AnswerRow) -> Decision
+pub fn judge_answer(looks: &AnswerFacts, by: By, row: AnswerRow) -> Decision
     ensures { result ≡ judge_answer looks.now by row }
 {
     if !looks.known {
@@ -110,7 +110,7 @@ pub fn judge_answer(looks: &AnswerLooks, by: By, row: AnswerRow) -> Decision
 }
 
 /// What an answer of its candidate comes to, whose turn was not accepted before.
-fn judge_new_answer(looks: &AnswerLooks, row: AnswerRow) -> Decision
+fn judge_new_answer(looks: &AnswerFacts, row: AnswerRow) -> Decision
     ensures { result ≡ judge_new_answer looks.now row }
 {
     if let Some(refusal) = not_open(looks.window, looks.rounds, row.window) {
@@ -123,7 +123,7 @@ fn judge_new_answer(looks: &AnswerLooks, row: AnswerRow) -> Decision
 }
 
 /// What the next answer of the open window comes to.
-fn judge_next_answer(looks: &AnswerLooks, row: AnswerRow) -> Decision
+fn judge_next_answer(looks: &AnswerFacts, row: AnswerRow) -> Decision
     ensures { result ≡ judge_next_answer looks.now row }
 {
     let leaves = row.choice == Choice::Withdraw;
@@ -235,7 +235,7 @@ pub fn judge_round(cuts: u16, published: u16, round: u16) -> Decision
 }
 
 /// What a raise comes to. It takes no memory.
-pub fn judge_raise(looks: &RaiseLooks, by: By, row: RaiseRow) -> Decision
+pub fn judge_raise(looks: &RaiseFacts, by: By, row: RaiseRow) -> Decision
     requires few { looks.now.seats ≤ looks.now.total }
     requires all { looks.now.total ≤ 40000000 }
     ensures { result ≡ judge_raise looks.now by row }
@@ -256,7 +256,7 @@ pub fn judge_raise(looks: &RaiseLooks, by: By, row: RaiseRow) -> Decision
 }
 
 /// What a raise of the open window comes to, by its seats.
-fn judge_new_seats(looks: &RaiseLooks, row: RaiseRow) -> Decision
+fn judge_new_seats(looks: &RaiseFacts, row: RaiseRow) -> Decision
     requires few { looks.now.seats ≤ looks.now.total }
     requires all { looks.now.total ≤ 40000000 }
     ensures { result ≡ judge_new_seats looks.now row }

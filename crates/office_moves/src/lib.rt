@@ -12,7 +12,7 @@ pub mod refusal;
 pub mod total;
 
 pub use decide::{
-    AnswerLooks, Decision, Question, RaiseLooks, judge_answer, judge_cut, judge_list, judge_own,
+    AnswerFacts, Decision, Question, RaiseFacts, judge_answer, judge_cut, judge_list, judge_own,
     judge_raise, judge_round, judge_why,
 };
 pub use moves::{Act, Entry, Reply};

@@ -1,7 +1,7 @@
 -- Lines and fields, cut at the first separator.
 use Rattle.std.proofs.Common.{◌≡◌, ◌<◌, ◌≤◌, ◌-◌, ℕ, zero, suc, Bool, true, false, cond, eqb, List, [], ◌∷◌, length, take, drop, map, get_or, refl, sym, ap, ◌∙◌, arith, eq-eqb}
 use Rattle.std.proofs.lemmas.Bool.{cond-false, ne_eqb}
-use Rattle.office_text.specs.Lines.{cut_at, onto_first, drop_cr, trimmed, unless_last, without_empty_last, lines_of}
+use Rattle.office_text.specs.Lines.{split_at_each, onto_first, drop_cr, trimmed, unless_last, without_empty_last, lines_of}
 
 -- at a separator byte the test holds, and elsewhere it does not
 at_true : {X : Type 0} (b : Bool) (x y : X) → b ≡ true → cond b x y ≡ x
@@ -16,26 +16,26 @@ onto_first-filled byte [] = (byte ∷ [], [], refl)
 onto_first-filled byte (piece ∷ pieces) = (byte ∷ piece, pieces, refl)
 
 -- There is one piece at least.
-pub cut_at-filled : (separator : ℕ) (bytes : List ℕ) → IsFilled (cut_at separator bytes)
-cut_at-filled separator [] = ([], [], refl)
-cut_at-filled separator (byte ∷ bytes) = elim (eqb byte separator) as (λ (b : Bool). IsFilled (cond b ([] ∷ cut_at separator bytes) (onto_first byte (cut_at separator bytes)))) [
-  | true ↦ ([], cut_at separator bytes, refl)
-  | false ↦ onto_first-filled byte (cut_at separator bytes)
+pub split_at_each-filled : (separator : ℕ) (bytes : List ℕ) → IsFilled (split_at_each separator bytes)
+split_at_each-filled separator [] = ([], [], refl)
+split_at_each-filled separator (byte ∷ bytes) = elim (eqb byte separator) as (λ (b : Bool). IsFilled (cond b ([] ∷ split_at_each separator bytes) (onto_first byte (split_at_each separator bytes)))) [
+  | true ↦ ([], split_at_each separator bytes, refl)
+  | false ↦ onto_first-filled byte (split_at_each separator bytes)
 ]
 
 -- The first separator ends the first piece.
-pub cut_at-first : (separator : ℕ) (bytes : List ℕ) (end : ℕ) → end < length bytes → get_or bytes end 0 ≡ separator → ((k : ℕ) → k < end → get_or bytes k 0 ≡ separator → ⊥) → cut_at separator bytes ≡ take end bytes ∷ cut_at separator (drop (suc end) bytes)
-cut_at-first separator [] end within here before = absurd (omega arith)
-cut_at-first separator (b ∷ bytes) zero within here before = at_true (eqb b separator) _ _ (eq-eqb b separator here)
-cut_at-first separator (b ∷ bytes) (suc n) within here before =
-    let rest : cut_at separator bytes ≡ take n bytes ∷ cut_at separator (drop (suc n) bytes) = cut_at-first separator bytes n (omega arith) here (λ k below. before (suc k) (omega arith)) in
+pub split_at_each-first : (separator : ℕ) (bytes : List ℕ) (end : ℕ) → end < length bytes → get_or bytes end 0 ≡ separator → ((k : ℕ) → k < end → get_or bytes k 0 ≡ separator → ⊥) → split_at_each separator bytes ≡ take end bytes ∷ split_at_each separator (drop (suc end) bytes)
+split_at_each-first separator [] end within here before = absurd (omega arith)
+split_at_each-first separator (b ∷ bytes) zero within here before = at_true (eqb b separator) _ _ (eq-eqb b separator here)
+split_at_each-first separator (b ∷ bytes) (suc n) within here before =
+    let rest : split_at_each separator bytes ≡ take n bytes ∷ split_at_each separator (drop (suc n) bytes) = split_at_each-first separator bytes n (omega arith) here (λ k below. before (suc k) (omega arith)) in
     cond-false (eqb b separator) _ _ (ne_eqb b separator (before zero (omega arith))) ∙ ap (onto_first b) rest
 
 -- Bytes without separators are one piece.
-pub cut_at-whole : (separator : ℕ) (bytes : List ℕ) → ((k : ℕ) → k < length bytes → get_or bytes k 0 ≡ separator → ⊥) → cut_at separator bytes ≡ bytes ∷ []
-cut_at-whole separator [] before = refl
-cut_at-whole separator (b ∷ bytes) before =
-    cond-false (eqb b separator) _ _ (ne_eqb b separator (before zero (omega arith))) ∙ ap (onto_first b) (cut_at-whole separator bytes (λ k below. before (suc k) (omega arith)))
+pub split_at_each-whole : (separator : ℕ) (bytes : List ℕ) → ((k : ℕ) → k < length bytes → get_or bytes k 0 ≡ separator → ⊥) → split_at_each separator bytes ≡ bytes ∷ []
+split_at_each-whole separator [] before = refl
+split_at_each-whole separator (b ∷ bytes) before =
+    cond-false (eqb b separator) _ _ (ne_eqb b separator (before zero (omega arith))) ∙ ap (onto_first b) (split_at_each-whole separator bytes (λ k below. before (suc k) (omega arith)))
 
 -- What comes before other pieces is no last piece.
 kept_before : (piece : List ℕ) (pieces : List (List ℕ)) → IsFilled pieces → without_empty_last (piece ∷ map drop_cr pieces) ≡ piece ∷ without_empty_last (map drop_cr pieces)
@@ -45,12 +45,12 @@ kept_before (byte ∷ piece) pieces filled = rw filled.2 refl
 -- The first LF ends the first line.
 pub lines_of-first : (bytes : List ℕ) (end : ℕ) → end < length bytes → get_or bytes end 0 ≡ 10 → ((k : ℕ) → k < end → get_or bytes k 0 ≡ 10 → ⊥) → lines_of bytes ≡ drop_cr (take end bytes) ∷ lines_of (drop (suc end) bytes)
 lines_of-first bytes end within here before =
-    ap (λ (pieces : List (List ℕ)). without_empty_last (map drop_cr pieces)) (cut_at-first 10 bytes end within here before)
-    ∙ kept_before (drop_cr (take end bytes)) (cut_at 10 (drop (suc end) bytes)) (cut_at-filled 10 (drop (suc end) bytes))
+    ap (λ (pieces : List (List ℕ)). without_empty_last (map drop_cr pieces)) (split_at_each-first 10 bytes end within here before)
+    ∙ kept_before (drop_cr (take end bytes)) (split_at_each 10 (drop (suc end) bytes)) (split_at_each-filled 10 (drop (suc end) bytes))
 
 -- Bytes without LF are the last line, or none where that line is empty.
 pub lines_of-last : (bytes : List ℕ) → ((k : ℕ) → k < length bytes → get_or bytes k 0 ≡ 10 → ⊥) → lines_of bytes ≡ without_empty_last (drop_cr bytes ∷ [])
-lines_of-last bytes before = ap (λ (pieces : List (List ℕ)). without_empty_last (map drop_cr pieces)) (cut_at-whole 10 bytes before)
+lines_of-last bytes before = ap (λ (pieces : List (List ℕ)). without_empty_last (map drop_cr pieces)) (split_at_each-whole 10 bytes before)
 
 -- A CR at the end is dropped.
 drop_cr-at : (line : List ℕ) (n : ℕ) → length line ≡ suc n → get_or line n 0 ≡ 13 → drop_cr line ≡ take n line

@@ -7,13 +7,13 @@ onto_first byte [] = (byte ∷ []) ∷ []
 onto_first byte (piece ∷ pieces) = (byte ∷ piece) ∷ pieces
 
 -- the pieces of bytes, cut at each separator: one more than there are separators
-abbrev pub cut_at : ℕ → List ℕ → List (List ℕ)
-cut_at separator [] = [] ∷ []
-cut_at separator (byte ∷ bytes) = if byte == separator then [] ∷ cut_at separator bytes else onto_first byte (cut_at separator bytes)
+abbrev pub split_at_each : ℕ → List ℕ → List (List ℕ)
+split_at_each separator [] = [] ∷ []
+split_at_each separator (byte ∷ bytes) = if byte == separator then [] ∷ split_at_each separator bytes else onto_first byte (split_at_each separator bytes)
 
 -- the fields of a line, cut at its commas
 abbrev pub fields_of : List ℕ → List (List ℕ)
-fields_of line = cut_at 44 line
+fields_of line = split_at_each 44 line
 
 -- a byte, unless it is this one and the last
 abbrev pub unless_last : ℕ → ℕ → List ℕ → List ℕ
@@ -41,7 +41,7 @@ without_empty_last (piece ∷ next ∷ pieces) = piece ∷ without_empty_last (n
 -- The lines of bytes that no mark begins. They end with LF or CR LF. What follows the last LF is a line too, unless
 -- it is empty. A CR at the end of a line is no part of it.
 abbrev pub lines_of : List ℕ → List (List ℕ)
-lines_of bytes = without_empty_last (map drop_cr (cut_at 10 bytes))
+lines_of bytes = without_empty_last (map drop_cr (split_at_each 10 bytes))
 
 -- the bytes after a byte order mark, or all where none begins them
 abbrev pub skip_mark : List ℕ → List ℕ

@@ -14,7 +14,7 @@ use Rattle.audit_rules.specs.Papers.{Papers}
 use Rattle.audit_rules.specs.Verdict.{IsVerdict}
 use Rattle.one_output.specs.Laws.{OneKeptSeason}
 use Rattle.one_output.specs.VerdictLaws.{OneVerdictOfBytes, audited_of}
-use Rattle.dossier_file.proofs.CutLemmas.{one_cut}
+use Rattle.dossier_file.proofs.SplitLemmas.{one_split}
 
 -- the papers that an audit reads off
 abbrev audited_papers : Read → Papers
@@ -22,7 +22,7 @@ audited_papers papers = record { rounds = map (λ read. read.rows) papers.rounds
 
 pub one_verdict_of_bytes : OneKeptSeason → ((bytes : List ℕ) → HaveOneDossier bytes) → TextsAreOne → OneVerdict → OneVerdictOfBytes
 one_verdict_of_bytes seasons dossiers texts one bytes dossier other verdict more first second is its =
-    let cut = one_cut bytes first.bundle first.requests first.published second.bundle second.requests second.published first.cut second.cut in
+    let cut = one_split bytes first.bundle first.requests first.published second.bundle second.requests second.published first.cut second.cut in
     let same = seasons second.bundle dossier.season other.season (subst (λ (b : List ℕ). IsSeason b dossier.season) cut.bundles first.of_season) second.of_season in
     let script : dossier.script ≡ other.script = (let a = first.of_script.1 in let b = second.of_script.1 in let e = cut.scripts in cc) in
     let by_season = subst (λ (f : SeasonFacts). AreDuePapers f.matrix f.people f.rounds other.script second.published (papers_of other)) (sym same) second.of_papers in

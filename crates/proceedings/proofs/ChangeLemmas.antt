@@ -15,12 +15,12 @@ use Rattle.rounds.specs.declared.round.Round.{Round}
 use Rattle.round_options.specs.declared.standing.Standing.{Standing}
 use Rattle.round_options.specs.declared.standing.Standing.TheVariants.{Waiting}
 use Rattle.seat_matrix.specs.Matrix.{SeatTable, matrix_with, seating_in}
-use Rattle.office_turns.specs.Turns.{no_turns}
+use Rattle.answer_table.specs.Turns.{no_turns}
 use Rattle.office_moves.specs.Facts.{SeasonFacts}
 use Rattle.office_moves.specs.State.{State, in_window, opening, rows_of, view_of, with_finals, with_raise, with_round, with_row}
 use Rattle.office_moves.specs.Raised.{matrix_at, raised_to}
 use Rattle.office_moves.specs.Judge.{is_gone}
-use Rattle.office_moves.specs.Decided.{answer_looks, decided, same_raise}
+use Rattle.office_moves.specs.Decided.{answer_facts, decided, same_raise}
 use Rattle.office_moves.specs.Moves.{Does, raised_reply}
 use Rattle.office_moves.specs.History.{IsHistory, asked, newly}
 use Rattle.office_moves.specs.Promise.{standing_then}
@@ -30,12 +30,12 @@ use Rattle.office_moves.specs.declared.moves.Act.TheVariants.{Answer, Cut, Raise
 use Rattle.office_moves.specs.declared.moves.Entry.{Entry}
 use Rattle.office_moves.proofs.Chains.{answer_new, cut_new}
 use Rattle.office_moves.proofs.Rising.{raised_append}
-use Rattle.histories.specs.Orderly.{AreAnswers}
-use Rattle.histories.proofs.Accepted.{is_open}
-use Rattle.histories.proofs.Changes.{Answered, Change, Finishes, Publishes, Raised, changes}
-use Rattle.histories.proofs.Turns.{was_next}
-use Rattle.window_ends.specs.WindowEnd.{after_cuts, seats_given, standings, still_in}
-use Rattle.window_ends.proofs.OfficeLinks.{AreRising, all_left, all_left_last, all_stand}
+use Rattle.history_laws.specs.Orderly.{AreAnswers}
+use Rattle.history_laws.proofs.Accepted.{is_open}
+use Rattle.history_laws.proofs.Changes.{Answered, Change, Finishes, Publishes, Raised, changes}
+use Rattle.history_laws.proofs.Turns.{was_next}
+use Rattle.cut_arrays.specs.WindowEnd.{after_cuts, seats_given, standings, still_in}
+use Rattle.cut_arrays.proofs.OfficeLinks.{AreRising, all_left, all_left_last, all_stand}
 use Rattle.proceedings.specs.Changes.{IsAnswerAt, StillAfter}
 use Rattle.proceedings.specs.Proceeding.{answers_of, choices_in, in_after, left_along, still_among, still_of, table_along}
 use Rattle.proceedings.proofs.CutLemmas.{AreTables, HasNone, cut_takes, no_table, still_left, still_now}
@@ -56,7 +56,7 @@ pub record IsNoted (facts : SeasonFacts) (state : State) (row : AnswerRow) (at :
 
 pub is_noted : (facts : SeasonFacts) (state : State) (row : AnswerRow) (at : ℕ) → IsAnswerAt facts state row at → IsNoted facts state row at
 is_noted facts state row at is =
-    let new = answer_new state.now (answer_looks facts (view_of state row.cand.0) row) (Candidate row.cand) row (Answer row) (ap (newly state.now) is.0) in
+    let new = answer_new state.now (answer_facts facts (view_of state row.cand.0) row) (Candidate row.cand) row (Answer row) (ap (newly state.now) is.0) in
     let next = was_next facts state row new.opened new.turn new.next in
     let person = stands row.cand.0 facts.people at is.1 in
     record { window = next.window; few = (is_open state.now facts.rounds row.window new.opened).1; there = next.there; person = person.person; here = person.there; mine = person.mine }

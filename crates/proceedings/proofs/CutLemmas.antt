@@ -8,11 +8,11 @@ use Rattle.kept_rows.specs.declared.rows.AnswerRow.{AnswerRow}
 use Rattle.round_options.specs.Options.{after_cut}
 use Rattle.round_options.specs.declared.standing.Standing.{Standing}
 use Rattle.round_options.specs.declared.standing.Standing.TheVariants.{Waiting, Offered, Freeze, Float, Slide, Withdrawn, NoShow}
-use Rattle.office_turns.specs.Turns.{no_turns}
+use Rattle.answer_table.specs.Turns.{no_turns}
 use Rattle.office_moves.specs.Facts.{SeasonFacts}
 use Rattle.office_moves.specs.State.{State, answered, in_window, left_by, rows_of, standing_at, view_of}
 use Rattle.office_moves.specs.Judge.{is_gone}
-use Rattle.window_ends.specs.WindowEnd.{after_cuts, still_in}
+use Rattle.cut_arrays.specs.WindowEnd.{after_cuts, still_in}
 use Rattle.proceedings.specs.Proceeding.{in_after, left_along, still_among, still_of, table_along}
 
 -- no answers in a window of a state

@@ -18,7 +18,7 @@ use Rattle.office_moves.specs.declared.moves.Act.TheVariants.{Answer, Cut, Raise
 use Rattle.office_moves.specs.declared.moves.Entry.{Entry}
 use Rattle.office_moves.specs.declared.moves.Reply.{Reply}
 use Rattle.office_moves.specs.declared.moves.Reply.TheVariants.{Final, Published}
-use Rattle.histories.specs.Laws.{HistoryGrows}
+use Rattle.history_laws.specs.Laws.{HistoryGrows}
 use Rattle.proceedings.specs.Proceeding.{answer_before, answers_of, last_of}
 
 -- ---- answers of entries

@@ -17,11 +17,11 @@ use Rattle.office_moves.specs.State.{State, last_seat, round_at, seat_of}
 use Rattle.office_moves.specs.Raised.{matrix_at}
 use Rattle.office_moves.specs.Moves.{IsNextRound, allot_rows, final_rows, next_seeks}
 use Rattle.office_moves.specs.Promise.{standing_then}
-use Rattle.histories.specs.Orderly.{IsOrderly}
-use Rattle.window_ends.specs.NextSeeks.{AreSeated, seeks_after}
-use Rattle.window_ends.specs.Rows.{kept_seats, rows_of_seats}
-use Rattle.window_ends.specs.WindowEnd.{seats_of, standings}
-use Rattle.window_ends.proofs.OfficeLinks.{AreRising, all_allotted, all_end, all_seek, all_stand, round_along}
+use Rattle.history_laws.specs.Orderly.{IsOrderly}
+use Rattle.cut_arrays.specs.NextSeeks.{AreSeated, seeks_after}
+use Rattle.cut_arrays.specs.Rows.{kept_seats, rows_of_seats}
+use Rattle.cut_arrays.specs.WindowEnd.{seats_of, standings}
+use Rattle.cut_arrays.proofs.OfficeLinks.{AreRising, all_allotted, all_end, all_seek, all_stand, round_along}
 use Rattle.proceedings.specs.Proceeding.{left_along, table_along}
 
 pub left_full : (facts : SeasonFacts) (state : State) (left : List Standing) → left ≡ left_along facts state → length left ≡ length facts.people

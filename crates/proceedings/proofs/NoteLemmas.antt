@@ -17,8 +17,8 @@ use Rattle.office_moves.specs.Facts.{SeasonFacts}
 use Rattle.office_moves.specs.State.{State, answered, in_window, left_by, rows_of, seat_of, view_of, with_row}
 use Rattle.office_moves.specs.Judge.{is_gone}
 use Rattle.office_moves.specs.Promise.{standing_then}
-use Rattle.histories.proofs.Rows.{OfOther, OfWindow, Own, Owns, answered_last, own_row, owns, rows_then}
-use Rattle.window_ends.proofs.OfficeLinks.{AreRising, same_map}
+use Rattle.history_laws.proofs.Rows.{OfOther, OfWindow, Own, Owns, answered_last, own_row, owns, rows_then}
+use Rattle.cut_arrays.proofs.OfficeLinks.{AreRising, same_map}
 use Rattle.proceedings.specs.Changes.{StillAfter}
 use Rattle.proceedings.specs.Proceeding.{choices_in, in_after, left_along, still_among, table_along}
 use Rattle.proceedings.proofs.CutLemmas.{AreTables}

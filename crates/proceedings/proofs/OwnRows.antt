@@ -13,8 +13,8 @@ use Rattle.kept_rows.specs.declared.rows.AnswerRow.{AnswerRow}
 use Rattle.rank_lists.specs.Register.{row_of}
 use Rattle.office_moves.specs.Facts.{SeasonFacts}
 use Rattle.office_moves.specs.State.{State, in_window, rows_of}
-use Rattle.office_turns.specs.Turns.{choice_at}
-use Rattle.histories.specs.Orderly.{AreTurnsAfter}
+use Rattle.answer_table.specs.Turns.{choice_at}
+use Rattle.history_laws.specs.Orderly.{AreTurnsAfter}
 use Rattle.proceedings.specs.Proceeding.{choices_in, rows_after, table_along}
 use Rattle.proceedings.proofs.Positions.{stands}
 

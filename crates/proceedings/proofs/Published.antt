@@ -27,10 +27,10 @@ use Rattle.office_moves.specs.Facts.{IsSound, SeasonFacts, lists_in_order}
 use Rattle.office_moves.specs.State.{State, round_at}
 use Rattle.office_moves.specs.Raised.{matrix_of_round}
 use Rattle.office_moves.specs.Moves.{row_before, rows_along}
-use Rattle.histories.proofs.Entering.{list_there, lists_full}
-use Rattle.histories.proofs.Fits.{seeks_fit}
-use Rattle.histories.specs.Course.{IsCourse, seeks_then}
-use Rattle.histories.specs.Orderly.{IsOrderly}
+use Rattle.history_laws.proofs.Entering.{list_there, lists_full}
+use Rattle.history_laws.proofs.Fits.{seeks_fit}
+use Rattle.history_laws.specs.Course.{IsCourse, seeks_then}
+use Rattle.history_laws.specs.Orderly.{IsOrderly}
 use Rattle.proceedings.proofs.Positions.{stands}
 
 -- a published round is at the place before its number

@@ -9,9 +9,9 @@ use Rattle.kept_rows.specs.declared.rows.AnswerRow.{AnswerRow}
 use Rattle.round_options.specs.Options.{standing_of}
 use Rattle.round_options.specs.declared.standing.Standing.{Standing}
 use Rattle.office_moves.specs.State.{accepted, answered, in_window, last_turn}
-use Rattle.office_turns.specs.Turns.{choice_at, last_choice}
-use Rattle.histories.specs.Orderly.{AreTurnsAfter}
-use Rattle.histories.proofs.Turns.{greater_next, turns_count}
+use Rattle.answer_table.specs.Turns.{choice_at, last_choice}
+use Rattle.history_laws.specs.Orderly.{AreTurnsAfter}
+use Rattle.history_laws.proofs.Turns.{greater_next, turns_count}
 use Rattle.proceedings.proofs.Lasts.{last_of_rest}
 
 -- the choices of rows

@@ -6,7 +6,7 @@ use Rattle.office_moves.specs.History.{IsHistory}
 use Rattle.office_moves.specs.Raised.{matrix_at}
 use Rattle.season_facts.specs.Season.{facts_of}
 use Rattle.office_moves.specs.State.{State, in_window, rows_of}
-use Rattle.histories.specs.Orderly.{IsOrderly}
+use Rattle.history_laws.specs.Orderly.{IsOrderly}
 use Rattle.proceedings.specs.Proceeding.{Proceeding, answers_of, left_along, still_of, table_along}
 use Rattle.proceedings.specs.declared.book.Proceedings.TheInside.{Inside}
 

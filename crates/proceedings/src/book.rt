@@ -1,14 +1,14 @@
 // The proceedings as arrays.
 ghost use Rattle.std.specs.Prelude.{◌≡◌, ◌≤◌, ◌+◌, length};
-ghost use Rattle.histories.specs.Orderly.{IsOrderly};
+ghost use Rattle.history_laws.specs.Orderly.{IsOrderly};
 ghost use Rattle.office_moves.specs.History.{IsHistory};
 ghost use Rattle.office_moves.specs.Raised.{matrix_at};
 ghost use Rattle.season_facts.specs.Season.{facts_of};
 ghost use Rattle.office_moves.specs.State.{round_at};
 
+use answer_table::AnswerTable;
 use kept_rows::AllotRows;
 use office_moves::Entry;
-use office_turns::TurnTable;
 use raised_seats::RaisedSeats;
 use round_options::Standing;
 use rounds::Round;
@@ -29,7 +29,7 @@ pub struct Proceedings {
     /// How the last cut left each candidate.
     pub(crate) left: Vec<Standing>,
     /// The turns of each candidate, by windows.
-    pub(crate) turns: Vec<TurnTable>,
+    pub(crate) turns: Vec<AnswerTable>,
     pub(crate) entries: Vec<Entry>,
     /// The window that is open, which is how many cuts were made.
     pub(crate) window: u16,

@@ -6,16 +6,17 @@ ghost use Rattle.office_moves.specs.History.{asked};
 ghost use Rattle.office_moves.specs.Moves.{IsNextRound, final_rows};
 ghost use Rattle.season_facts.specs.Season.{facts_of};
 ghost use Rattle.office_moves.specs.State.{opening, with_finals, with_raise, with_round, with_row};
-ghost use Rattle.office_turns.specs.Turns.{no_turns};
+ghost use Rattle.answer_table.specs.Turns.{no_turns};
 ghost use Rattle.round_options.specs.declared.standing.Standing.TheVariants.{Waiting};
 ghost use Rattle.proceedings.specs.Changes.{IsAnswerAt, StillAfter};
 
 use crate::book::Proceedings;
 use crate::room::put_last;
+use answer_table::AnswerTable;
+use cut_arrays::leave_all;
 use kept_rows::{AllotRows, AnswerRow, RaiseRow};
 use office_base::{Choice, OutOfMemory};
 use office_moves::{Act, Decision, Entry};
-use office_turns::TurnTable;
 use raised_seats::RaisedSeats;
 use round_options::Standing;
 use rounds::Round;
@@ -23,7 +24,6 @@ use season_facts::says_what_is_sound;
 use season_file::Season;
 use seat_matrix::Matrix;
 use std::alloc::Global;
-use window_ends::leave_all;
 
 /// Returns how many are still in after a choice of one of them.
 fn still_after(still: u32, choice: Choice) -> u32
@@ -51,13 +51,13 @@ fn opening_arrays(
 }
 
 /// Returns the table of the first window, with room for one after each round.
-fn opening_turns(alloc: Global, rounds: u16, count: usize) -> Result<Vec<TurnTable>, OutOfMemory>
+fn opening_turns(alloc: Global, rounds: u16, count: usize) -> Result<Vec<AnswerTable>, OutOfMemory>
     ensures first { IfOk result (λ turns. turns.items ≡ no_turns count ∷ []) }
     ensures one { IfOk result (λ turns. vec_len turns ≡ 1) }
     ensures room { IfOk result (λ turns. rounds + 1 ≤ vec_capacity turns) }
 {
     let mut turns = Vec::with_capacity(alloc, usize::from(rounds) + 1)?;
-    turns.push(TurnTable::new(alloc, count)?)?;
+    turns.push(AnswerTable::new(alloc, count)?)?;
     Ok(turns)
 }
 
@@ -90,7 +90,7 @@ impl Proceedings {
         ensures still { IfOk result (λ book. book.still ≡ length (facts_of season).people) }
     {
         says_what_is_sound(&season);
-        histories::laws::orderly();
+        history_laws::laws::orderly();
         let count = season.register.people().len();
         let (matrix, left) = opening_arrays(alloc, &season, count)?;
         let turns = opening_turns(alloc, season.rounds, count)?;
@@ -136,8 +136,8 @@ impl Proceedings {
         ensures room { self.old.room ≤ self.new.room + 1 }
         ensures still { StillAfter row.choice self.old.still self.new.still }
     {
-        histories::laws::history_grows();
-        histories::laws::orderly();
+        history_laws::laws::history_grows();
+        history_laws::laws::orderly();
         let still = still_after(self.still_in, row.choice);
         self.turns[usize::from(row.window)].put(at as usize, row.choice);
         self.still_in = still;
@@ -147,7 +147,7 @@ impl Proceedings {
 
     /// Takes the cut of the open window, which publishes this round, as entry of this number. Opens the next window with this table.
     /// It takes no memory.
-    pub fn publish(&mut self, number: u64, round: Round, table: TurnTable)
+    pub fn publish(&mut self, number: u64, round: Round, table: AnswerTable)
         requires decided { decided self.old.season self.old.state
             (asked self.old.season (Act.Cut self.old.state.now)) ≡ Decision.Publish }
         requires next { IsNextRound self.old.season self.old.state round }
@@ -161,8 +161,8 @@ impl Proceedings {
         ensures still { self.new.still ≤ self.old.still }
         ensures room { self.old.room ≤ self.new.room + 1 }
     {
-        histories::laws::history_grows();
-        histories::laws::orderly();
+        history_laws::laws::history_grows();
+        history_laws::laws::orderly();
         let window = self.window;
         let seats = Some(round.seats.as_slice());
         let still = leave_all(
@@ -192,8 +192,8 @@ impl Proceedings {
         ensures still { self.new.still ≤ self.old.still }
         ensures room { self.old.room ≤ self.new.room + 1 }
     {
-        histories::laws::history_grows();
-        histories::laws::orderly();
+        history_laws::laws::history_grows();
+        history_laws::laws::orderly();
         let window = self.window;
         let still = leave_all(
             self.left.as_mut_slice(),
@@ -221,8 +221,8 @@ impl Proceedings {
         ensures still { self.new.still ≡ self.old.still }
         ensures room { self.old.room ≤ self.new.room + 1 }
     {
-        histories::laws::history_grows();
-        histories::laws::orderly();
+        history_laws::laws::history_grows();
+        history_laws::laws::orderly();
         self.raised.raise(row);
         let act = Act::Raise(row);
         put_last(&mut self.entries, Entry { number, act });

@@ -4,14 +4,14 @@ ghost use Rattle.rank_lists.specs.Register.{row_of};
 ghost use Rattle.seeks.specs.Seek.{is_listed};
 ghost use Rattle.office_moves.specs.Facts.{find_programme};
 ghost use Rattle.office_moves.specs.State.{view_of};
-ghost use Rattle.office_moves.specs.Decided.{answer_looks, decide_answer, decide_list, decide_own, decide_raise, decide_why, decided, is_chosen_by, is_known, raise_looks};
+ghost use Rattle.office_moves.specs.Decided.{answer_facts, decide_answer, decide_list, decide_own, decide_raise, decide_why, decided, is_chosen_by, is_known, raise_facts};
 ghost use Rattle.proceedings.specs.Changes.{IsDecided};
 
 use crate::book::Proceedings;
 use kept_rows::{AnswerRow, RaiseRow};
 use office_base::{Ask, By, CandId, Code, ProgId, Request, StepKind};
 use office_moves::{
-    AnswerLooks, Decision, Question, RaiseLooks, Refusal, judge_answer, judge_cut, judge_list,
+    AnswerFacts, Decision, Question, RaiseFacts, Refusal, judge_answer, judge_cut, judge_list,
     judge_own, judge_raise, judge_round, judge_why,
 };
 
@@ -96,7 +96,7 @@ impl Proceedings {
     {
         match self.season.register.position(row.cand) {
             Some(at) => {
-                let looks = self.answer_looks(at as usize, row);
+                let looks = self.answer_facts(at as usize, row);
                 (judge_answer(&looks, by, row), at)
             }
             None => (Decision::Refuse(Refusal::UnknownCandidate), 0),
@@ -104,18 +104,18 @@ impl Proceedings {
     }
 
     /// Returns what an answer of the candidate at this position is judged by.
-    fn answer_looks(&self, at: usize, row: AnswerRow) -> AnswerLooks
+    fn answer_facts(&self, at: usize, row: AnswerRow) -> AnswerFacts
         requires within { at < length self.now.season.people }
         requires place { row_of row.cand.0 self.now.season.people ≡ Some at }
-        ensures { result ≡ answer_looks self.now.season (view_of self.now.state row.cand.0) row }
+        ensures { result ≡ answer_facts self.now.season (view_of self.now.state row.cand.0) row }
     {
-        AnswerLooks {
+        AnswerFacts {
             known: true,
-            kept: self.kept(at, row.window, row.turn),
+            kept: self.accepted_choice(at, row.window, row.turn),
             window: self.now(),
             rounds: self.season().rounds,
             last: self.last_turn(at),
-            left: self.left(at),
+            left: self.standing_at_cut(at),
             standing: self.standing(at),
             seated: self.last_seat(at).is_some(),
         }
@@ -159,16 +159,16 @@ impl Proceedings {
                     step,
                     seats,
                 };
-                judge_raise(&self.raise_looks(row), by, row)
+                judge_raise(&self.raise_facts(row), by, row)
             }
             None => Decision::Refuse(Refusal::UnknownProgramme),
         }
     }
 
     /// Returns what a raise of a programme of the matrix is judged by.
-    fn raise_looks(&self, row: RaiseRow) -> RaiseLooks
+    fn raise_facts(&self, row: RaiseRow) -> RaiseFacts
         requires { row.prog.0 < length self.now.season.matrix.programmes }
-        ensures looks { result ≡ raise_looks self.now.season self.now.state row }
+        ensures looks { result ≡ raise_facts self.now.season self.now.state row }
         ensures few { result.seats ≤ result.total }
         ensures all { result.total ≤ 40000000 }
     {

@@ -1,23 +1,23 @@
 // What is looked up at the position of a candidate in the register.
 ghost use Rattle.std.specs.Prelude.{◌≡◌, ◌<◌, ◌++◌, ℕ, suc, List, [], Some, IfSome, IfNone, IfOk, OnOk, length, option_map, slice_get};
-ghost use Rattle.histories.specs.Orderly.{AreTurnsAfter};
+ghost use Rattle.history_laws.specs.Orderly.{AreTurnsAfter};
 ghost use Rattle.office_moves.specs.Moves.{in_windows};
 ghost use Rattle.office_moves.specs.State.{accepted, answered, in_window, last_seat, last_turn, left_by, rows_of, standing_at, view_of};
 ghost use Rattle.rank_lists.specs.Register.{row_of};
 ghost use Rattle.office_base.specs.declared.asks.Choice.{Choice};
-ghost use Rattle.office_turns.specs.Turns.{last_choice};
+ghost use Rattle.answer_table.specs.Turns.{last_choice};
 ghost use Rattle.proceedings.specs.Proceeding.{choices_in, rows_after, table_along};
 
 use crate::book::Proceedings;
+use answer_table::AnswerTable;
 use kept_rows::{AnswerRow, AnswerRows};
 use office_base::{CandId, Choice, Listed, OutOfMemory, Seat};
-use office_turns::TurnTable;
 use round_options::{Standing, standing_of};
 use std::alloc::Global;
 
 impl Proceedings {
     /// The turns of each candidate in a window. None only where nothing was answered in it, since it is not open yet, or is no window of the season.
-    fn table(&self, window: u16) -> Option<&TurnTable>
+    fn table(&self, window: u16) -> Option<&AnswerTable>
         ensures some { IfSome result (λ table.
             table.now ≡ table_along self.now.season self.now.state window) }
         ensures none { IfNone result ((id : ℕ)
@@ -29,7 +29,7 @@ impl Proceedings {
     }
 
     /// The choice of the candidate at this position that was accepted at a window and turn.
-    pub(crate) fn kept(&self, at: usize, window: u16, turn: u16) -> Option<Choice>
+    pub(crate) fn accepted_choice(&self, at: usize, window: u16, turn: u16) -> Option<Choice>
         requires { at < length self.now.season.people }
         ensures { option_map (λ person. accepted window turn (rows_of person.id.0
             self.now.state.answers)) (slice_get self.now.season.people at) ≡ Some result }
@@ -91,7 +91,7 @@ impl Proceedings {
     }
 
     /// How the last cut left the candidate at this position.
-    pub(crate) fn left(&self, at: usize) -> Standing
+    pub(crate) fn standing_at_cut(&self, at: usize) -> Standing
         requires { at < length self.now.season.people }
         ensures { option_map (λ person. left_by self.now.season (view_of self.now.state person.id.0)
             person.id.0 self.now.state.now) (slice_get self.now.season.people at) ≡ Some result }
@@ -120,7 +120,7 @@ impl Proceedings {
     {
         match self.last_choice(at) {
             Some(choice) => standing_of(choice),
-            None => self.left(at),
+            None => self.standing_at_cut(at),
         }
     }
 
@@ -140,7 +140,7 @@ impl Proceedings {
 /// Puts the turns of the candidate at this position at the end of these rows, in their order.
 fn push_turns(
     rows: &mut AnswerRows,
-    table: &TurnTable,
+    table: &AnswerTable,
     at: usize,
     cand: CandId,
     window: u16,

@@ -2,13 +2,13 @@
 ghost use Rattle.std.specs.Prelude.{◌≡◌, IfOk, length};
 ghost use Rattle.office_moves.specs.Facts.{lists_in_order};
 ghost use Rattle.office_moves.specs.Moves.{IsNextRound, allot_rows, final_rows, next_seeks};
-ghost use Rattle.office_turns.specs.Turns.{no_turns};
+ghost use Rattle.answer_table.specs.Turns.{no_turns};
 ghost use Rattle.rounds.specs.Rule.{AreSeeks};
 
 use crate::book::Proceedings;
+use answer_table::AnswerTable;
 use kept_rows::AllotRows;
 use office_base::OutOfMemory;
-use office_turns::TurnTable;
 use rounds::{Round, Seeks};
 use std::alloc::Global;
 
@@ -16,25 +16,25 @@ impl Proceedings {
     ghost use Rattle.proceedings.specs.Proceeding.{table_along};
 
     /// What everybody seeks next, by the turns of the open window.
-    fn seeks_by(&self, alloc: Global, table: &TurnTable) -> Result<Seeks, OutOfMemory>
+    fn seeks_by(&self, alloc: Global, table: &AnswerTable) -> Result<Seeks, OutOfMemory>
         requires { table.now ≡ table_along self.now.season self.now.state self.now.state.now }
         ensures { IfOk result (λ seeks. seeks ≡ next_seeks self.now.season self.now.state) }
     {
         let people = self.season.register.people();
         let choices = &self.season.choices;
         let left = self.left.as_slice();
-        window_ends::seeks_after(alloc, people, choices, left, table, self.rounds.last())
+        cut_arrays::seeks_after(alloc, people, choices, left, table, self.rounds.last())
     }
 
     /// The final rows, by the turns of the open window.
-    fn final_rows_by(&self, alloc: Global, table: &TurnTable) -> Result<AllotRows, OutOfMemory>
+    fn final_rows_by(&self, alloc: Global, table: &AnswerTable) -> Result<AllotRows, OutOfMemory>
         requires { table.now ≡ table_along self.now.season self.now.state self.now.state.now }
         ensures { IfOk result (λ rows. rows ≡ final_rows self.now.season self.now.state) }
     {
         let people = self.season.register.people();
         let rounds = self.season.rounds;
         let left = self.left.as_slice();
-        window_ends::final_rows(alloc, people, rounds, left, table, self.rounds.last())
+        cut_arrays::final_rows(alloc, people, rounds, left, table, self.rounds.last())
     }
 
     /// What everybody seeks in the next round, along the register.
@@ -58,7 +58,7 @@ impl Proceedings {
         ensures { IfOk result (λ rows. rows ≡ allot_rows self.now.season round.now) }
     {
         let people = self.season.register.people();
-        window_ends::rows_of_round(alloc, people, round.number, round.seats.as_slice())
+        cut_arrays::rows_of_round(alloc, people, round.number, round.seats.as_slice())
     }
 
     /// The final rows, one for each of the people who keeps a seat of the last round.
@@ -75,9 +75,9 @@ impl Proceedings {
     }
 
     /// The table of the next window, in which nobody has taken a turn.
-    pub fn next_table(&self, alloc: Global) -> Result<TurnTable, OutOfMemory>
+    pub fn next_table(&self, alloc: Global) -> Result<AnswerTable, OutOfMemory>
         ensures { IfOk result (λ table. table ≡ no_turns (length self.now.season.people)) }
     {
-        TurnTable::new(alloc, self.season.register.people().len())
+        AnswerTable::new(alloc, self.season.register.people().len())
     }
 }

@@ -100,7 +100,7 @@ impl Proceedings {
         ensures { IfOk result (λ reply.
             Tells self.now.season self.now.state (TheCutoffs round prog) reply) }
     {
-        histories::laws::lists_hold_choices();
+        history_laws::laws::lists_hold_choices();
         let seats = self.season.matrix.programme(prog);
         let lines = cutoffs_in(alloc, &seats, self.shown(round, prog))?;
         Ok(Reply::CutoffsAre { round, prog, lines })

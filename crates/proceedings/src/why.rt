@@ -10,11 +10,11 @@ ghost use Rattle.office_moves.specs.Why.{is_sought_by, reason_in, why_answer, wh
 ghost use Rattle.proceedings.specs.LastRound.{IsLastRound};
 
 use crate::book::Proceedings;
+use cut_arrays::place_of;
 use office_base::{CandId, ProgId, Seat};
 use reasons::{Reason, WhyAnswer};
 use rounds::Round;
 use seeks::{Seek, is_sought};
-use window_ends::place_of;
 
 impl Proceedings {
     /// The answer to why, for the candidate at this position, by the last published round.

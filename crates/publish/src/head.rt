@@ -7,7 +7,7 @@ ghost use Rattle.publish.specs.Rows.{IsNumber, head_words};
 use crate::sort::Sort;
 use office_text::laws::numbers_are_inverse;
 use office_text::read_number;
-use text_readers::{after, begins_number, cut, left_after};
+use text_readers::{after, begins_number, left_after, split_at_byte};
 
 /// Holds what the first line of a text says.
 #[derive(Clone, Copy)]
@@ -40,7 +40,7 @@ fn read_round_head(line: &[u8]) -> Option<Head>
 {
     numbers_are_inverse();
     let rest = after(line, b"round ")?;
-    let (number, rest) = cut(rest, b' ')?;
+    let (number, rest) = split_at_byte(rest, b' ')?;
     let number = read_number(number, 0, 65_535)?;
     let count = after(rest, b"seated ")?;
     let count = read_number(count, 0, u32::MAX)?;
@@ -95,7 +95,7 @@ fn begins_round_head(most: u32, piece: &[u8]) -> bool
     ensures { (known : ℕ) → IsTrue result ↔ BeginsHead Sort.Round known most piece.now }
 {
     match left_after(piece, b"round ") {
-        Some(rest) => match cut(rest, b' ') {
+        Some(rest) => match split_at_byte(rest, b' ') {
             Some((number, rest)) => is_round(number) && begins_seated(most, rest),
             None => begins_number(65_535, rest),
         },

@@ -9,7 +9,7 @@ use office_text::laws::numbers_are_inverse;
 use office_text::read_number;
 use seat_matrix::Matrix;
 use step_lines::step_name;
-use text_readers::{after, cut, read_programme};
+use text_readers::{after, read_programme, split_at_byte};
 
 /// Holds a row of a text: a candidate, a programme and a step.
 #[derive(Clone, Copy)]
@@ -41,8 +41,8 @@ pub(crate) fn read_row(matrix: &Matrix, word: &[u8], line: &[u8]) -> Option<Row>
 {
     numbers_are_inverse();
     let rest = after(line, word)?;
-    let (cand, rest) = cut(rest, b' ')?;
-    let (code, step) = cut(rest, b' ')?;
+    let (cand, rest) = split_at_byte(rest, b' ')?;
+    let (code, step) = split_at_byte(rest, b' ')?;
     let cand = read_number(cand, 0, u32::MAX)?;
     let prog = read_programme(matrix, code)?;
     let step = written_step(step)?;

@@ -14,7 +14,7 @@ use crate::stage::Stage;
 use kept_rows::{AllotRow, AllotRows};
 use office_base::{OutOfMemory, Person};
 use seat_matrix::Matrix;
-use text_readers::{Lines, begins_whole};
+use text_readers::{LineReader, begins_whole};
 
 /// Holds a text of rows while it is read.
 #[derive(Drop)]
@@ -219,7 +219,7 @@ impl RowsReader<'_> {
     }
 }
 
-impl Lines for RowsReader<'_> {
+impl LineReader for RowsReader<'_> {
     ghost use Rattle.std.specs.Prelude.{length};
     ghost use Rattle.publish.specs.Reader.{KeepsRows, grammar_of, lines_left};
     ghost use Rattle.publish.specs.Rows.{Read};

@@ -10,8 +10,8 @@ use Rattle.round_laws.specs.Laws as theory
 use Rattle.office_moves.specs.Facts.{SeasonFacts, lists_in_order}
 use Rattle.office_moves.specs.Promise.{all_sought_then, sought_then}
 use Rattle.office_moves.specs.State.{seat_of}
-use Rattle.histories.proofs.Entering.{list_there, lists_full}
-use Rattle.histories.proofs.Fits.{map_at}
+use Rattle.history_laws.proofs.Entering.{list_there, lists_full}
+use Rattle.history_laws.proofs.Fits.{map_at}
 use Rattle.published_rounds.specs.Laws.{MoreSeatsHurtNobody, NoOtherListGivesMore, SameAreSeated}
 use Rattle.published_rounds.specs.Published.{matrix_then, wanted_then}
 use Rattle.published_rounds.proofs.Places.{AreOrderly, course_of, in_round, made_then, may_enter, place_among}

@@ -14,9 +14,9 @@ use Rattle.rounds.proofs.Entrants.{entered, length_seekers, market}
 use Rattle.office_moves.specs.Facts.{IsSound, SeasonFacts, lists_in_order}
 use Rattle.office_moves.specs.Promise.{all_sought_then}
 use Rattle.office_moves.specs.State.{State, seat_of}
-use Rattle.histories.specs.Course.{IsCourse}
-use Rattle.histories.proofs.Entering.{lists_full}
-use Rattle.histories.proofs.Fits.{enters, full_seeks}
+use Rattle.history_laws.specs.Course.{IsCourse}
+use Rattle.history_laws.proofs.Entering.{lists_full}
+use Rattle.history_laws.proofs.Fits.{enters, full_seeks}
 use Rattle.published_rounds.specs.Published.{market_then, matrix_then, wanted_then}
 use Rattle.published_rounds.proofs.Places.{AreOrderly, course_of, in_round, made_then, may_enter}
 use Rattle.published_rounds.specs.Groups.{AllGain, TellTogether}

@@ -25,8 +25,8 @@ use Rattle.rounds.proofs.Entrants.{market}
 use Rattle.office_moves.specs.Facts.{IsSound, SeasonFacts, lists_in_order}
 use Rattle.office_moves.specs.Promise.{all_sought_then}
 use Rattle.office_moves.specs.State.{State}
-use Rattle.histories.specs.Course.{IsCourse}
-use Rattle.histories.proofs.Falls.{fit_all, next_market}
+use Rattle.history_laws.specs.Course.{IsCourse}
+use Rattle.history_laws.proofs.Falls.{fit_all, next_market}
 use Rattle.published_rounds.specs.Published.{market_then, matrix_then}
 use Rattle.published_rounds.proofs.Places.{AreOrderly, course_of, made_then, may_enter}
 use Rattle.published_rounds.specs.CutoffLaws.{LaterCutoffsAreWider}

@@ -5,7 +5,7 @@ mod Compared
 mod Envy
 mod Fronts
 pub mod Places
-mod Traces
+mod WholeListLaws
 pub mod Within
 mod LaterCutoffs
 mod RaisedCutoffs

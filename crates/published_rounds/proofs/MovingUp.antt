@@ -20,7 +20,7 @@ use Rattle.seeks.specs.declared.seek.Seek.{Seek}
 use Rattle.rounds.specs.Rule.{AreEntrants, MayApplyIn, ProgrammesChooseWell, rule_of, seekers_of}
 use Rattle.rounds.proofs.Entrants.{market}
 use Rattle.round_laws.proofs.OneRound.{same_places}
-use Rattle.histories.proofs.Fits.{map_at}
+use Rattle.history_laws.proofs.Fits.{map_at}
 use Rattle.published_rounds.specs.BetterOff.{BetterOffIsNoWorse, OneIsBetterOff}
 use Rattle.published_rounds.specs.Numbers.{with_numbers}
 use Rattle.published_rounds.specs.Order.{OnlyTheOrderCounts}

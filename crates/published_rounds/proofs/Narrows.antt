@@ -27,7 +27,7 @@ use Rattle.rounds.specs.declared.round.Round.{Round}
 use Rattle.round_options.specs.Options.{after_cut, holds, may_follow, seek_after}
 use Rattle.round_options.specs.declared.standing.Standing.{Standing}
 use Rattle.round_options.specs.declared.standing.Standing.TheVariants.{Waiting, Freeze, Float, Slide}
-use Rattle.office_moves.specs.Decided.{answer_looks, decided}
+use Rattle.office_moves.specs.Decided.{answer_facts, decided}
 use Rattle.office_moves.specs.Facts.{IsSound, SeasonFacts}
 use Rattle.office_moves.specs.History.{newly}
 use Rattle.office_moves.specs.Moves.{next_seek}
@@ -38,12 +38,12 @@ use Rattle.office_moves.specs.declared.decide.Decision.TheVariants.{Note, Lift, 
 use Rattle.office_moves.specs.declared.moves.Act.{Act}
 use Rattle.office_moves.proofs.Narrows.{FitsLast, IsLeft, holder_narrows, left_there, narrows_applies, there_left}
 use Rattle.office_moves.proofs.Rising.{AreLifts, IsLift, lifts_append, raised_append, raised_well}
-use Rattle.histories.proofs.Accepted.{IsNoted, is_noted, is_open}
-use Rattle.histories.proofs.Changes.{Accepts, LastCut, NewAnswer, NewCut, NewRaise, accepts}
-use Rattle.histories.proofs.Entering.{own_there}
-use Rattle.histories.proofs.Fits.{Answered, FitsCut, cut_fits, follows, map_at, seat_at_place, still_waits}
-use Rattle.histories.proofs.Raises.{was_lift}
-use Rattle.histories.proofs.Rows.{answered_last, window_more, window_same}
+use Rattle.history_laws.proofs.Accepted.{IsNoted, is_noted, is_open}
+use Rattle.history_laws.proofs.Changes.{Accepts, LastCut, NewAnswer, NewCut, NewRaise, accepts}
+use Rattle.history_laws.proofs.Entering.{own_there}
+use Rattle.history_laws.proofs.Fits.{Answered, FitsCut, cut_fits, follows, map_at, seat_at_place, still_waits}
+use Rattle.history_laws.proofs.Raises.{was_lift}
+use Rattle.history_laws.proofs.Rows.{answered_last, window_more, window_same}
 use Rattle.audit_rules.specs.Cut.{CutHolds, HoldsAt, seat_given, seekers_at, sought_by}
 use Rattle.audit_rules.specs.InOrder.{IsInOrder}
 use Rattle.audit_rules.specs.Papers.{Papers, rows_after, seat_told, seats_told}
@@ -112,7 +112,7 @@ at_the_cut facts papers old order early =
 
 -- an answer of the open window is one more that may follow
 answer_after : (facts : SeasonFacts) (papers : Papers) (old state : State) (row : AnswerRow) → IsAfter facts papers old state → row.window ≡ state.now
-    → IsNoted (answer_looks facts (view_of state row.cand.0) row) row → IsAfter facts papers old (with_row state row)
+    → IsNoted (answer_facts facts (view_of state row.cand.0) row) row → IsAfter facts papers old (with_row state row)
 answer_after facts papers old state row after opened noted =
     let new = with_row state row in
     let left_of : ℕ → Standing = λ id. left_by facts (view_of new id) id state.now in
@@ -173,7 +173,7 @@ request_after facts papers old state request order after stays = go (newly state
     accepted : (act : Act) → Accepts facts state request.by request.ask act → IsAfter facts papers old (taken facts papers state (decided facts state request))
     accepted act (NewAnswer row asks is n decides) =
         by_decision (Note row) decides (answer_after facts papers old state row after (is_open state.now facts.rounds row.window n.opened).0
-        (is_noted (answer_looks facts (view_of state row.cand.0) row) row n.next))
+        (is_noted (answer_facts facts (view_of state row.cand.0) row) row n.next))
     accepted act (NewRaise row code asks found known is n decides) =
         by_decision (Lift row) decides (raise_after facts papers old state row after (was_lift facts state row (subst (λ z. row.prog.0 < length z) (sym order.programmes) found.below) n.next))
     accepted act (LastCut window asks is n last decides) = absurd (let e = no_cut Finish decides in omega (arith, e))

@@ -13,7 +13,7 @@ use Rattle.office_base.specs.declared.person.Place.TheVariants.{Absent, Common, 
 use Rattle.office_base.specs.declared.person.ProgId.{ProgId}
 use Rattle.seat_matrix.specs.Matrix.{SeatTable, list_in}
 use Rattle.rounds.specs.Rule.{AreEntrants}
-use Rattle.histories.proofs.Fits.{map_at}
+use Rattle.history_laws.proofs.Fits.{map_at}
 use Rattle.published_rounds.specs.Numbers.{place_with, places_with, with_numbers}
 use Rattle.published_rounds.specs.Registers.{without_numbers}
 use Rattle.published_rounds.proofs.Numbers.{one_number, one_of_parts, place_there}

@@ -35,7 +35,7 @@ use Rattle.rounds.proofs.Entrants.{market}
 use Rattle.office_moves.specs.Facts.{IsSound, SeasonFacts, lists_in_order}
 use Rattle.office_moves.specs.Promise.{all_sought_then}
 use Rattle.office_moves.specs.State.{State, seat_of}
-use Rattle.histories.specs.Course.{IsCourse}
+use Rattle.history_laws.specs.Course.{IsCourse}
 use Rattle.published_rounds.specs.Published.{market_then, matrix_then, wanted_then}
 use Rattle.published_rounds.proofs.Places.{AreOrderly, InRound, course_of, in_round, made_then, may_enter, place_among, seat_there_is}
 use Rattle.published_rounds.specs.CutoffLaws.{RefusalsAreOutside, SeatsAreTheFirst, WithinCutoffsIsSeated}

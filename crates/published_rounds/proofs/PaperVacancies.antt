@@ -10,7 +10,7 @@ use Rattle.office_moves.specs.Raised.{matrix_at}
 use Rattle.office_moves.specs.State.{State}
 use Rattle.office_moves.specs.declared.decide.Decision.TheVariants.{Publish}
 use Rattle.office_moves.specs.declared.moves.Act.{Act}
-use Rattle.histories.proofs.Changes.{Accepts, LastCut, NewAnswer, NewCut, NewRaise, accepts}
+use Rattle.history_laws.proofs.Changes.{Accepts, LastCut, NewAnswer, NewCut, NewRaise, accepts}
 use Rattle.published_rounds.specs.Fair.{AreFairOver}
 use Rattle.published_rounds.specs.FairLaws.{FewNewHolders, FewNewlySeated, NoVacancyFillsByItself}
 use Rattle.audit_rules.specs.Cut.{seekers_at}

@@ -16,8 +16,8 @@ use Rattle.office_moves.specs.Facts.{IsSound, SeasonFacts, lists_in_order}
 use Rattle.office_moves.specs.Moves.{next_seeks}
 use Rattle.office_moves.specs.Raised.{matrix_at}
 use Rattle.office_moves.specs.State.{State}
-use Rattle.histories.proofs.Entering.{entrants}
-use Rattle.histories.proofs.Fits.{map_at}
+use Rattle.history_laws.proofs.Entering.{entrants}
+use Rattle.history_laws.proofs.Fits.{map_at}
 use Rattle.published_rounds.specs.Fair.{AreFairOver}
 use Rattle.published_rounds.specs.People.{FairSeatsAreJustified}
 use Rattle.published_rounds.proofs.People.{fair_to}

@@ -15,7 +15,7 @@ use Rattle.seat_matrix.specs.Matrix.{SeatTable, list_in}
 use Rattle.round_laws.proofs.OneRound.{same_places}
 use Rattle.office_moves.specs.Facts.{SeasonFacts}
 use Rattle.office_moves.specs.State.{seat_of}
-use Rattle.histories.proofs.Fits.{full_seekers, map_at}
+use Rattle.history_laws.proofs.Fits.{full_seekers, map_at}
 use Rattle.published_rounds.specs.Published.{market_then, matrix_then, wanted_then}
 use Rattle.published_rounds.proofs.Places.{AreOrderly, course_of, in_round, place_among}
 use Rattle.published_rounds.specs.Fair.{AreFairOver, IsDecided, IsFirstOpen, IsOpenTo}

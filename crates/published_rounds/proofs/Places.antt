@@ -20,10 +20,10 @@ use Rattle.office_moves.specs.History.{Reaches}
 use Rattle.office_moves.specs.Promise.{all_sought_then, sought_then}
 use Rattle.office_moves.specs.State.{State, opening, seat_of}
 use Rattle.office_moves.specs.declared.moves.Entry.{Entry}
-use Rattle.histories.specs.Course.{IsCourse}
-use Rattle.histories.specs.Orderly.{IsOrderly}
-use Rattle.histories.proofs.Entering.{entrants}
-use Rattle.histories.proofs.Fits.{enters, full_seekers}
+use Rattle.history_laws.specs.Course.{IsCourse}
+use Rattle.history_laws.specs.Orderly.{IsOrderly}
+use Rattle.history_laws.proofs.Entering.{entrants}
+use Rattle.history_laws.proofs.Fits.{enters, full_seekers}
 use Rattle.published_rounds.specs.Published.{IsPublished, IsThatOrEarlier, market_then, matrix_then, wanted_then}
 
 -- what the law of histories says

@@ -16,7 +16,7 @@ use Rattle.list_cutoffs.specs.declared.cutoffs.StepCutoff.{StepCutoff}
 use Rattle.office_moves.specs.Facts.{SeasonFacts}
 use Rattle.office_moves.specs.Raised.{matrix_of_round, raised, raised_before}
 use Rattle.office_moves.specs.State.{State}
-use Rattle.histories.specs.Course.{IsCourse}
+use Rattle.history_laws.specs.Course.{IsCourse}
 
 module _ (few more : ProgrammeSeats) (raise : HaveMoreSeats few more) where
   same_kept : (list : StepList) → kept_listed few list ≡ kept_listed more list

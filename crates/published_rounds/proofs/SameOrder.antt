@@ -17,7 +17,7 @@ use Rattle.seeks.specs.Seek.{seek_leaves}
 use Rattle.seeks.specs.declared.seek.Seek.{Seek}
 use Rattle.rounds.specs.Rule.{MayApplyIn, ProgrammesChooseWell, rule_of, seekers_of}
 use Rattle.rounds.proofs.Entrants.{market}
-use Rattle.histories.proofs.Fits.{map_at}
+use Rattle.history_laws.proofs.Fits.{map_at}
 use Rattle.published_rounds.specs.Order.{KeepsOrder, OnlyTheOrderCounts}
 use Rattle.published_rounds.proofs.Choices.{admits_map}
 

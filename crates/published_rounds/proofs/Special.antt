@@ -24,8 +24,8 @@ use Rattle.round_laws.specs.Laws.{lists_in}
 use Rattle.office_moves.specs.Facts.{IsSound, SeasonFacts}
 use Rattle.season_facts.specs.Season.{facts_of}
 use Rattle.office_moves.specs.State.{seat_of}
-use Rattle.histories.proofs.Entering.{entrants, list_there, lists_full}
-use Rattle.histories.proofs.Fits.{map_at}
+use Rattle.history_laws.proofs.Entering.{entrants, list_there, lists_full}
+use Rattle.history_laws.proofs.Fits.{map_at}
 use Rattle.published_rounds.specs.Fair.{AreFairOver}
 use Rattle.published_rounds.specs.FairLaws.{RoundsAreFair}
 use Rattle.published_rounds.specs.People.{FairSeatsAreJustified}

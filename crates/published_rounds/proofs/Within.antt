@@ -37,7 +37,7 @@ use Rattle.office_moves.specs.Facts.{IsSound, SeasonFacts, lists_in_order}
 use Rattle.office_moves.specs.Promise.{all_sought_then}
 use Rattle.office_moves.specs.State.{State}
 use Rattle.office_moves.proofs.Sums.{rows_less}
-use Rattle.histories.specs.Course.{IsCourse}
+use Rattle.history_laws.specs.Course.{IsCourse}
 use Rattle.published_rounds.specs.Laws.{SeatsAreWithin}
 use Rattle.published_rounds.specs.Published.{AreWithin, is_seat_under, market_then, matrix_then, seats_under}
 use Rattle.published_rounds.proofs.Places.{AreOrderly, course_of, made_then, may_enter}

@@ -2,7 +2,7 @@ pub mod OneMore
 pub mod Simple
 pub mod Laws
 pub mod Published
-pub mod Traces
+pub mod WholeListLaws
 pub mod CutoffLaws
 pub mod Cutoffs
 pub mod Fair

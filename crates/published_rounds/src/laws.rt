@@ -4,7 +4,7 @@ ghost use Rattle.published_rounds.specs.OneMore.{OneMoreKeepsItsHolders};
 ghost use Rattle.published_rounds.specs.Simple.{TheSimpleRule};
 ghost use Rattle.office_moves.specs.Facts.{SeasonFacts};
 ghost use Rattle.published_rounds.specs.Laws.{MoreSeatsHurtNobody, NoOtherListGivesMore, NobodyIsEnvied, SameAreSeated, SeatsAreWithin};
-ghost use Rattle.published_rounds.specs.Traces.{RoundsLeaveNoTrace};
+ghost use Rattle.published_rounds.specs.WholeListLaws.{RoundsLeaveNoTrace};
 ghost use Rattle.published_rounds.specs.CutoffLaws.{LaterCutoffsAreWider, RefusalsAreOutside, SeatsAreTheFirst, WithinCutoffsIsSeated};
 ghost use Rattle.published_rounds.specs.FairLaws.{ClosingPlacesDecide, FewNewHolders, FewNewlySeated, NoSeatIsWasted, NoVacancyFillsByItself, NobodyIsEnviedWhereFair, RoundsAreFair, SeatsAreWithinWhereFair};
 ghost use Rattle.published_rounds.specs.People.{FairSeatsAreJustified, PublishedRoundsAreJustified};
@@ -38,7 +38,7 @@ pub fn one_more_keeps_its_holders()
 pub fn nobody_is_envied()
     ensures { (facts : SeasonFacts) → NobodyIsEnvied facts }
 {
-    histories::laws::orderly();
+    history_laws::laws::orderly();
     round_laws::laws::choose_well();
     programme_laws::laws::nobody_is_passed_over();
 }
@@ -47,7 +47,7 @@ pub fn nobody_is_envied()
 pub fn seats_are_within()
     ensures { (facts : SeasonFacts) → SeatsAreWithin facts }
 {
-    histories::laws::orderly();
+    history_laws::laws::orderly();
     round_laws::laws::choose_well();
     open_then_category::laws::one_programme_choice();
 }
@@ -56,7 +56,7 @@ pub fn seats_are_within()
 pub fn same_are_seated()
     ensures { (facts : SeasonFacts) → SameAreSeated facts }
 {
-    histories::laws::orderly();
+    history_laws::laws::orderly();
     round_laws::laws::fair_rounds_seat_alike();
 }
 
@@ -64,7 +64,7 @@ pub fn same_are_seated()
 pub fn no_other_list_gives_more()
     ensures { (facts : SeasonFacts) → NoOtherListGivesMore facts }
 {
-    histories::laws::orderly();
+    history_laws::laws::orderly();
     round_laws::laws::truth_is_best();
 }
 
@@ -72,7 +72,7 @@ pub fn no_other_list_gives_more()
 pub fn more_seats_hurt_nobody()
     ensures { (facts : SeasonFacts) → MoreSeatsHurtNobody facts }
 {
-    histories::laws::orderly();
+    history_laws::laws::orderly();
     round_laws::laws::more_seats_hurt_nobody();
 }
 
@@ -80,7 +80,7 @@ pub fn more_seats_hurt_nobody()
 pub fn rounds_leave_no_trace()
     ensures { (facts : SeasonFacts) → RoundsLeaveNoTrace facts }
 {
-    histories::laws::orderly();
+    history_laws::laws::orderly();
     round_laws::laws::choose_well();
     round_laws::laws::more_seats_hurt_nobody();
 }
@@ -89,7 +89,7 @@ pub fn rounds_leave_no_trace()
 pub fn seats_are_the_first()
     ensures { (facts : SeasonFacts) → SeatsAreTheFirst facts }
 {
-    histories::laws::orderly();
+    history_laws::laws::orderly();
     round_laws::laws::choose_well();
     programme_cutoffs::laws::cutoffs_decide_steps();
     programme_cutoffs::laws::cutoffs_decide_admissions();
@@ -101,7 +101,7 @@ pub fn seats_are_the_first()
 pub fn refusals_are_outside()
     ensures { (facts : SeasonFacts) → RefusalsAreOutside facts }
 {
-    histories::laws::orderly();
+    history_laws::laws::orderly();
     round_laws::laws::choose_well();
     programme_cutoffs::laws::cutoffs_decide_admissions();
     programme_cutoffs::laws::lines_tell_cutoffs();
@@ -118,7 +118,7 @@ pub fn within_cutoffs_is_seated()
 pub fn later_cutoffs_are_wider()
     ensures { (facts : SeasonFacts) → LaterCutoffsAreWider facts }
 {
-    histories::laws::orderly();
+    history_laws::laws::orderly();
     round_laws::laws::choose_well();
     round_laws::laws::grow();
     programme_cutoffs::laws::who_meets_still_meets();
@@ -200,7 +200,7 @@ pub fn rounds_are_fair()
 pub fn no_seat_is_wasted_then()
     ensures { (facts : SeasonFacts) → NoSeatIsWastedThen facts }
 {
-    histories::laws::orderly();
+    history_laws::laws::orderly();
     no_seat_is_wasted();
 }
 
@@ -208,7 +208,7 @@ pub fn no_seat_is_wasted_then()
 pub fn closing_places_decide_then()
     ensures { (facts : SeasonFacts) → ClosingPlacesDecideThen facts }
 {
-    histories::laws::orderly();
+    history_laws::laws::orderly();
     closing_places_decide();
 }
 
@@ -216,7 +216,7 @@ pub fn closing_places_decide_then()
 pub fn no_vacancy_fills_by_itself_then()
     ensures { (facts : SeasonFacts) → NoVacancyFillsByItselfThen facts }
 {
-    histories::laws::orderly();
+    history_laws::laws::orderly();
     round_laws::laws::choose_well();
     round_laws::laws::grow();
     no_vacancy_fills_by_itself();
@@ -226,7 +226,7 @@ pub fn no_vacancy_fills_by_itself_then()
 pub fn few_new_holders_then()
     ensures { (facts : SeasonFacts) → FewNewHoldersThen facts }
 {
-    histories::laws::orderly();
+    history_laws::laws::orderly();
     round_laws::laws::choose_well();
     round_laws::laws::grow();
     few_new_holders();
@@ -244,7 +244,7 @@ pub fn few_newly_seated()
 pub fn few_newly_seated_then()
     ensures { (facts : SeasonFacts) → FewNewlySeatedThen facts }
 {
-    histories::laws::orderly();
+    history_laws::laws::orderly();
     round_laws::laws::choose_well();
     round_laws::laws::grow();
     few_newly_seated();
@@ -265,7 +265,7 @@ pub fn fair_seats_are_justified()
 pub fn published_rounds_are_justified()
     ensures { (facts : SeasonFacts) → PublishedRoundsAreJustified facts }
 {
-    histories::laws::orderly();
+    history_laws::laws::orderly();
     fair_seats_are_justified();
 }
 
@@ -281,7 +281,7 @@ pub fn fair_and_safe_is_best()
 pub fn only_the_round_is_safe()
     ensures { (facts : SeasonFacts) → OnlyTheRoundIsSafe facts }
 {
-    histories::laws::orderly();
+    history_laws::laws::orderly();
     round_laws::laws::choose_well();
     fair_and_safe_is_best();
 }
@@ -297,7 +297,7 @@ pub fn version_two_hurts_nobody()
 pub fn version_two_would_hurt_nobody()
     ensures { (facts : SeasonFacts) → VersionTwoWouldHurtNobody facts }
 {
-    histories::laws::orderly();
+    history_laws::laws::orderly();
     version_two_hurts_nobody();
 }
 
@@ -312,7 +312,7 @@ pub fn dereservation_hurts_nobody()
 pub fn dereservation_hurt_nobody()
     ensures { (facts : SeasonFacts) → DereservationHurtNobody facts }
 {
-    histories::laws::orderly();
+    history_laws::laws::orderly();
     dereservation_hurts_nobody();
 }
 
@@ -328,7 +328,7 @@ pub fn no_group_gains_in_a_round()
 pub fn no_group_would_gain()
     ensures { (facts : SeasonFacts) → NoGroupWouldGain facts }
 {
-    histories::laws::orderly();
+    history_laws::laws::orderly();
     no_group_gains_in_a_round();
 }
 
@@ -346,7 +346,7 @@ pub fn better_off_is_no_worse()
 pub fn never_hurts_in_a_round()
     ensures { (facts : SeasonFacts) (other : SeasonFacts) → NeverHurtsInARound facts other }
 {
-    histories::laws::orderly();
+    history_laws::laws::orderly();
     better_off_is_no_worse();
 }
 
@@ -386,7 +386,7 @@ pub fn moving_up_never_hurts()
 pub fn moving_up_never_hurts_in_a_round()
     ensures { (facts : SeasonFacts) (other : SeasonFacts) → MovingUpNeverHurtsInARound facts other }
 {
-    histories::laws::orderly();
+    history_laws::laws::orderly();
     moving_up_never_hurts();
 }
 

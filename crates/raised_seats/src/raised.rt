@@ -12,7 +12,7 @@ ghost use Rattle.office_moves.specs.Raised.{raised_to, total_seats};
 use crate::accepted::AcceptedRaises;
 use kept_rows::RaiseRow;
 use office_base::OutOfMemory;
-use office_moves::{RaiseLooks, total_seats};
+use office_moves::{RaiseFacts, total_seats};
 use seat_matrix::Matrix;
 use std::alloc::Global;
 use std::marker::Model;
@@ -73,13 +73,13 @@ impl RaisedSeats {
     }
 
     /// Returns what a raise is judged by, in this open window of a season with this many rounds. It walks neither the matrix nor the raises.
-    pub fn looks(&self, window: u16, rounds: u16, row: RaiseRow) -> RaiseLooks
+    pub fn looks(&self, window: u16, rounds: u16, row: RaiseRow) -> RaiseFacts
         requires { row.prog.0 < length self.now.matrix.programmes }
         ensures looks { result ≡ looks_at self.now window rounds row }
         ensures few { result.seats ≤ result.total }
         ensures all { result.total ≤ 40000000 }
     {
-        RaiseLooks {
+        RaiseFacts {
             again: self.raises.has(row),
             window,
             rounds,

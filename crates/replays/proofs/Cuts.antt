@@ -15,7 +15,7 @@ use Rattle.office_moves.specs.declared.decide.Decision.{Decision}
 use Rattle.office_moves.specs.declared.decide.Decision.TheVariants.{Finish, Publish}
 use Rattle.office_moves.specs.declared.moves.Act.TheVariants.{Cut}
 use Rattle.office_moves.specs.declared.moves.Reply.TheVariants.{Final, Published}
-use Rattle.histories.specs.Orderly.{IsOrderly}
+use Rattle.history_laws.specs.Orderly.{IsOrderly}
 use Rattle.office_moves.specs.Promise.{kept_to_the_end}
 use Rattle.office_moves.specs.Stands.{first_allot, seat_in_finals}
 use Rattle.office_moves.proofs.Cuts.{ends}

@@ -15,7 +15,7 @@ use Rattle.kept_rows.specs.declared.rows.Kept.{Kept}
 use Rattle.kept_rows.specs.declared.rows.RaiseRow.{RaiseRow}
 use Rattle.seat_matrix.specs.Matrix.{AreSeats, SeatTable, codes_in}
 use Rattle.seat_matrix.specs.declared.entry.Home.{Home}
-use Rattle.office_moves.specs.Decided.{answer_looks, decide_raise_of, decided, raise_looks}
+use Rattle.office_moves.specs.Decided.{answer_facts, decide_raise_of, decided, raise_facts}
 use Rattle.office_moves.specs.Facts.{SeasonFacts, code_in, find_programme}
 use Rattle.office_moves.specs.History.{asked, newly}
 use Rattle.office_moves.specs.Judge.{with_programme}
@@ -28,7 +28,7 @@ use Rattle.office_moves.specs.declared.moves.Act.{Act}
 use Rattle.office_moves.specs.declared.moves.Act.TheVariants.{Answer, Raise, Cut}
 use Rattle.office_moves.specs.declared.moves.Reply.{Reply}
 use Rattle.office_moves.proofs.Chains.{IsNewAnswer, IsNewRaise, answer_new, raise_new}
-use Rattle.histories.proofs.Accepted.{is_open}
+use Rattle.history_laws.proofs.Accepted.{is_open}
 use Rattle.replays.specs.Acts.{acts_in}
 use Rattle.replays.specs.Faults.{IsStrayRow, StopsAt}
 use Rattle.replays.specs.declared.fault.ReplayFault.{ReplayFault}
@@ -39,8 +39,8 @@ use Rattle.replays.proofs.Tables.{answers_as, raises_as, with_map, with_number}
 -- ---- an answer
 
 new_answer : (facts : SeasonFacts) (state : State) (row : AnswerRow) (act : Act) → newly state.now (decided facts state (asked facts (Answer row))) ≡ Some act
-    → IsNewAnswer (answer_looks facts (view_of state row.cand.0) row) (Candidate row.cand) row
-new_answer facts state row act e = answer_new state.now (answer_looks facts (view_of state row.cand.0) row) (Candidate row.cand) row act e
+    → IsNewAnswer (answer_facts facts (view_of state row.cand.0) row) (Candidate row.cand) row
+new_answer facts state row act e = answer_new state.now (answer_facts facts (view_of state row.cand.0) row) (Candidate row.cand) row act e
 
 pub note_own : (facts : SeasonFacts) (state : State) (row other : AnswerRow) → decided facts state (asked facts (Answer row)) ≡ Note other → decided facts state (asked facts (Answer row)) ≡ Note row
 note_own facts state row other e = (new_answer facts state row (Answer other) (ap (newly state.now) e)).noted
@@ -118,9 +118,9 @@ asks_own facts state row seats less =
     ap (λ (o : Option ProgId). with_programme o (λ prog. decide_raise_of facts state Clerk (record { window = row.window; prog = prog; step = row.step; seats = row.seats }))) (finds_own facts row.prog seats less)
 
 new_raise : (facts : SeasonFacts) (state : State) (row : RaiseRow) (act : Act) → AreSeats facts.matrix → row.prog.0 < length facts.matrix.programmes
-    → newly state.now (decided facts state (asked facts (Raise row))) ≡ Some act → IsNewRaise (raise_looks facts state row) Clerk row
+    → newly state.now (decided facts state (asked facts (Raise row))) ≡ Some act → IsNewRaise (raise_facts facts state row) Clerk row
 new_raise facts state row act seats less e =
-    raise_new state.now (raise_looks facts state row) Clerk row act (sym (ap (newly state.now) (asks_own facts state row seats less)) ∙ e)
+    raise_new state.now (raise_facts facts state row) Clerk row act (sym (ap (newly state.now) (asks_own facts state row seats less)) ∙ e)
 
 pub lift_own : (facts : SeasonFacts) (state : State) (row other : RaiseRow) → AreSeats facts.matrix → row.prog.0 < length facts.matrix.programmes
     → decided facts state (asked facts (Raise row)) ≡ Lift other → decided facts state (asked facts (Raise row)) ≡ Lift row

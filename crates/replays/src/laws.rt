@@ -7,5 +7,5 @@ ghost use Rattle.replays.specs.Laws.{HaveOneEnd};
 pub fn one_end()
     ensures { (facts : SeasonFacts) (kept : Kept) → IsSound facts → HaveOneEnd facts kept }
 {
-    histories::laws::next_rounds_are_one();
+    history_laws::laws::next_rounds_are_one();
 }

@@ -2,7 +2,7 @@
 use Rattle.std.proofs.Common.{◌≡◌, ◌+◌, ℕ, List, [], ◌∷◌, ◌++◌, Option, Some, None, Result, Ok, Err, refl, ap, sym, ◌∙◌, append_assoc}
 use Rattle.std.proofs.lemmas.List.{append-nil}
 use Rattle.office_base.specs.declared.asks.Request.{Request}
-use Rattle.section_rows.specs.Rows.{Row, Told}
+use Rattle.section_rows.specs.Rows.{Row, RowsAhead}
 use Rattle.section_rows.specs.Steps.{after, needs}
 use Rattle.request_rows.specs.Requests.{IsPut, request_of, script_from, script_of}
 
@@ -30,9 +30,9 @@ joined-none : (read : List Request) (number : ℕ) (row : Row) (rows : List Row)
 joined-none read number row rows e = ap (λ (o : Option Request). joined read (needs o number (λ request. after (script_from (number + 1) rows) (λ requests. Ok (request ∷ requests))))) e
 
 -- Before the first row nothing is read.
-pub read-none : (script : List Request) (told : Told) (rows : List Row) → script ≡ [] → told ≡ record { row = []; left = rows } → script_of rows ≡ joined script (script_from 1 told.left)
+pub read-none : (script : List Request) (told : RowsAhead) (rows : List Row) → script ≡ [] → told ≡ record { row = []; left = rows } → script_of rows ≡ joined script (script_from 1 told.left)
 read-none script told rows empty begun =
-    let left : told.left ≡ rows = ap (λ (t : Told). t.left) begun in
+    let left : told.left ≡ rows = ap (λ (t : RowsAhead). t.left) begun in
     rw (empty, left) (sym (joined-nil (script_of rows)))
 
 -- A row that is a request is read.

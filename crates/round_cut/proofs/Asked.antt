@@ -17,14 +17,14 @@ use Rattle.seat_matrix.specs.declared.entry.Home.{Home}
 use Rattle.office_moves.specs.Facts.{SeasonFacts, code_in, find_programme}
 use Rattle.office_moves.specs.Judge.{is_candidate, is_clerk, judge_answer, judge_cut}
 use Rattle.office_moves.specs.State.{State, view_of}
-use Rattle.office_moves.specs.Decided.{answer_looks, decide_raise, decided, decided_by, raise_looks}
+use Rattle.office_moves.specs.Decided.{answer_facts, decide_raise, decided, decided_by, raise_facts}
 use Rattle.office_moves.specs.History.{asked, newly}
 use Rattle.office_moves.specs.declared.decide.Decision.TheVariants.{Finish, Lift, Note, Publish}
 use Rattle.office_moves.specs.declared.moves.Act.{Act}
 use Rattle.office_moves.specs.declared.moves.Act.TheVariants.{Answer, Raise, Cut}
 use Rattle.office_moves.proofs.Chains.{answer_new, cut_new, raise_new, with_new}
 use Rattle.office_moves.proofs.Decisions.{by_kind, question_old}
-use Rattle.histories.proofs.Changes.{code_at, found_number, same_act}
+use Rattle.history_laws.proofs.Changes.{code_at, found_number, same_act}
 use Rattle.proceedings.specs.Changes.{IsAnswerAt, IsAt}
 
 own_by : (by : By) (cand : CandId) → is_candidate by cand ≡ true → by ≡ Candidate cand
@@ -48,12 +48,12 @@ own_code facts code prog e =
 
 -- ---- acts
 
-asked_answer : (facts : SeasonFacts) (state : State) (by : By) (row : AnswerRow) (act : Act) → newly state.now (judge_answer (answer_looks facts (view_of state row.cand.0) row) by row) ≡ Some act
-    → decided facts state (asked facts act) ≡ judge_answer (answer_looks facts (view_of state row.cand.0) row) by row
+asked_answer : (facts : SeasonFacts) (state : State) (by : By) (row : AnswerRow) (act : Act) → newly state.now (judge_answer (answer_facts facts (view_of state row.cand.0) row) by row) ≡ Some act
+    → decided facts state (asked facts act) ≡ judge_answer (answer_facts facts (view_of state row.cand.0) row) by row
 asked_answer facts state by row act h =
-    let n = answer_new state.now (answer_looks facts (view_of state row.cand.0) row) by row act h in
+    let n = answer_new state.now (answer_facts facts (view_of state row.cand.0) row) by row act h in
     let is : act ≡ Answer row = same_act _ _ (sym (ap (newly state.now) n.noted) ∙ h) in
-    ap (λ a. decided facts state (asked facts a)) is ∙ ap (λ b. judge_answer (answer_looks facts (view_of state row.cand.0) row) b row) (sym (own_by by row.cand n.own))
+    ap (λ a. decided facts state (asked facts a)) is ∙ ap (λ b. judge_answer (answer_facts facts (view_of state row.cand.0) row) b row) (sym (own_by by row.cand n.own))
 
 asked_cut : (facts : SeasonFacts) (state : State) (by : By) (window : ℕ) (act : Act) → newly state.now (judge_cut by state.now facts.rounds window) ≡ Some act
     → decided facts state (asked facts act) ≡ judge_cut by state.now facts.rounds window
@@ -72,7 +72,7 @@ asked_raise : (facts : SeasonFacts) (state : State) (by : By) (window : ℕ) (co
 asked_raise facts state by window code step seats act h =
     let found = with_new state.now (find_programme facts code) _ act h in
     let row : RaiseRow = record { window = window; prog = found.0; step = step; seats = seats } in
-    let n = raise_new state.now (raise_looks facts state row) by row act found.2 in
+    let n = raise_new state.now (raise_facts facts state row) by row act found.2 in
     let is : act ≡ Raise row = same_act _ _ (sym (ap (newly state.now) (found.3 ∙ n.lifted)) ∙ h) in
     ap (λ a. decided facts state (asked facts a)) is
     ∙ (ap (λ c. decide_raise facts state Clerk window c step seats) (own_code facts code found.0 found.1)

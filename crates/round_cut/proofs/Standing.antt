@@ -18,7 +18,7 @@ use Rattle.office_moves.specs.Moves.{allot_rows, row_before, rows_along}
 use Rattle.office_moves.specs.Stands.{AreRecordsOf, Stand, first_allot, published_seat, raises_in}
 use Rattle.replays.proofs.Appended.{raises_append}
 use Rattle.office_moves.specs.State.{State, in_window, opening, round_at, seat_of, with_raise as state_with_raise, with_row}
-use Rattle.histories.proofs.Rows.{window_append}
+use Rattle.history_laws.proofs.Rows.{window_append}
 
 -- ---- what is visible
 

@@ -6,19 +6,19 @@ use Rattle.office_moves.specs.Moves.{Does}
 use Rattle.office_moves.specs.declared.decide.Decision.{Decision}
 use Rattle.office_moves.specs.declared.moves.Act.{Act}
 use Rattle.office_moves.specs.declared.moves.Reply.{Reply}
-use Rattle.keeper_mem.specs.Keeper.{Blames, Shelf}
-use Rattle.round_cut.specs.Office.{Opened}
+use Rattle.keeper_mem.specs.Keeper.{Blames, KeeperView}
+use Rattle.round_cut.specs.Office.{OfficeView}
 use Rattle.round_cut.specs.declared.fault.OfficeFault.{OfficeFault}
 use Rattle.round_cut.specs.declared.fault.OfficeFault.TheVariants.{KeeperFault}
 
 -- The decision is carried out, and the act follows the entries under this number.
-pub record Accepts {K : Type 0} (number : ℕ) (decision : Decision) (act : Act) (old new : Opened K) (result : Result Reply OfficeFault) : Type 0 where
+pub record Accepts {K : Type 0} (number : ℕ) (decision : Decision) (act : Act) (old new : OfficeView K) (result : Result Reply OfficeFault) : Type 0 where
   pub moves : IfOk result (λ reply. Does old.season old.state decision reply new.state)
   pub entries : OnOk result (new.entries ≡ grown old.entries number (Some act))
 
 -- The season is unchanged. After a fault the entries, the state and the tables are unchanged too.
 -- A fault of the keeper is reported if and only if the keeper failed.
-pub record KeepsOn {K X : Type 0} (seen : K → Shelf) (old new : Opened K) (result : Result X OfficeFault) : Type 0 where
+pub record KeepsOn {K X : Type 0} (seen : K → KeeperView) (old new : OfficeView K) (result : Result X OfficeFault) : Type 0 where
   pub season : new.season ≡ old.season
   pub err : OnErr result ((new.entries ≡ old.entries) × (new.state ≡ old.state))
   pub told : OnErr result (AreTold (seen old.keeper).tables (seen new.keeper).tables)

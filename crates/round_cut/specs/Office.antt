@@ -13,7 +13,7 @@ use Rattle.office_moves.specs.declared.moves.Entry.{Entry}
 
 -- An office: the season, what was accepted, the state to which it led, how many candidates are still in,
 -- and the keeper.
-pub record Opened (K : Type 0) : Type 0 where
+pub record OfficeView (K : Type 0) : Type 0 where
   pub season : SeasonFacts
   pub entries : List Entry
   pub state : State

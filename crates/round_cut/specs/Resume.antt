@@ -3,7 +3,7 @@ use Rattle.std.specs.Prelude.{◌≡◌, false, List, []}
 use Rattle.season_file.specs.Laws.{HasFault}
 use Rattle.season_file.specs.Season.{IsSeason}
 use Rattle.season_file.specs.declared.season.Season.{Season}
-use Rattle.keeper_mem.specs.Keeper.{Blames, Shelf}
+use Rattle.keeper_mem.specs.Keeper.{Blames, KeeperView}
 use Rattle.kept_rows.specs.Tables.{AreTold, IsFound, IsLoaded, Tables, still}
 use Rattle.kept_rows.specs.declared.rows.Kept.{Kept}
 use Rattle.office_moves.specs.Facts.{SeasonFacts}
@@ -20,7 +20,7 @@ use Rattle.replays.specs.Faults.{IsReplayFault}
 use Rattle.replays.specs.Replay.{IsReplayed}
 use Rattle.replays.specs.declared.fault.ReplayFault.{ReplayFault}
 use Rattle.replays.specs.declared.fault.ReplayFault.TheVariants.{Stray as StrayAnswer, StrayRaise as StrayLift, Differs as SeatsDiffer}
-use Rattle.round_cut.specs.Office.{HasRoom, Opened}
+use Rattle.round_cut.specs.Office.{HasRoom, OfficeView}
 use Rattle.round_cut.specs.Unresumed.{fault_of}
 use Rattle.round_cut.specs.declared.resume.Unresumed.{Unresumed}
 use Rattle.round_cut.specs.declared.resume.Unresumed.TheVariants.{NoSeason as NoneKept, Differs as Apart, KeeperFault as KeeperFailed, OutOfMemory as NoMemory}
@@ -87,10 +87,10 @@ IsUnresumed tables stopped = (records : Kept) × IsLoaded tables records × Have
 
 -- ---- an office that is opened
 
-module _ {K : Type 0} (seen : K → Shelf) where
+module _ {K : Type 0} (seen : K → KeeperView) where
   -- An office begins with this season over a keeper that held none: no entry, no round, room for all who are still in.
   -- The keeper did not fail.
-  pub record Begins (facts : SeasonFacts) (keeper : K) (office : Opened K) : Type 0 where
+  pub record Begins (facts : SeasonFacts) (keeper : K) (office : OfficeView K) : Type 0 where
     pub empty : IsFound false (still (seen keeper).tables (seen office.keeper).tables)
     pub season : office.season ≡ facts
     pub entries : office.entries ≡ []
@@ -102,7 +102,7 @@ module _ {K : Type 0} (seen : K → Shelf) where
 
   -- An office resumes from the records of a keeper, with room for all who are still in.
   -- The tables are unchanged, and the keeper did not fail.
-  pub record GoesOn (keeper : K) (office : Opened K) : Type 0 where
+  pub record GoesOn (keeper : K) (office : OfficeView K) : Type 0 where
     pub resumed : IsResumed (seen office.keeper).tables office.season office.state
     pub entries : HoldsTheKept (seen office.keeper).tables office.entries
     pub counted : AreCounted office.entries

@@ -1,13 +1,13 @@
 // What a change needs, made before anything is kept.
 ghost use Rattle.std.specs.Prelude.{◌≡◌, ◌<◌, ◌+◌, IfOk, length};
 ghost use Rattle.office_moves.specs.Moves.{IsNextRound, allot_rows, final_rows};
-ghost use Rattle.office_turns.specs.Turns.{no_turns};
+ghost use Rattle.answer_table.specs.Turns.{no_turns};
 ghost use Rattle.rounds.specs.Round.{seated};
 
+use answer_table::AnswerTable;
 use kept_rows::AllotRows;
 use next_rounds::next_round;
 use office_base::OutOfMemory;
-use office_turns::TurnTable;
 use proceedings::Proceedings;
 use rounds::Round;
 use std::alloc::Global;
@@ -17,7 +17,7 @@ use std::alloc::Global;
 pub(crate) struct MadeCut {
     pub(crate) round: Round,
     pub(crate) rows: AllotRows,
-    pub(crate) table: TurnTable,
+    pub(crate) table: AnswerTable,
     /// How many have a seat in the round.
     pub(crate) seated: u32,
 }

@@ -34,9 +34,9 @@ pub struct Office<K: Keeper> {
 impl<K: Keeper> Model for Office<K> {
     ghost use Rattle.std.specs.Prelude.{◌≡◌, ◌≤◌, true};
     ghost use Rattle.office_moves.specs.Stands.{Stand};
-    ghost use Rattle.round_cut.specs.Office.{HasRoom, Opened};
+    ghost use Rattle.round_cut.specs.Office.{HasRoom, OfficeView};
 
-    ghost Value = { Opened K };
+    ghost Value = { OfficeView K };
 
     ghost view = { λ a. record { season = a.book.season; entries = a.book.entries; state = a.book.state; still = a.book.still; keeper = a.keeper } };
 

@@ -20,9 +20,9 @@ use Rattle.office_moves.specs.declared.moves.Act.{Act}
 use Rattle.office_moves.specs.declared.moves.Entry.{Entry}
 use Rattle.office_moves.specs.declared.moves.Reply.{Reply}
 use Rattle.office_moves.specs.declared.refusal.Refusal.TheVariants.{Ahead}
-use Rattle.histories.specs.Laws.{HistoryGrows}
-use Rattle.histories.specs.Orderly.{IsOrderly}
-use Rattle.histories.proofs.Changes.{Accepts, LastCut, NewAnswer, NewCut, NewRaise, accepts}
+use Rattle.history_laws.specs.Laws.{HistoryGrows}
+use Rattle.history_laws.specs.Orderly.{IsOrderly}
+use Rattle.history_laws.proofs.Changes.{Accepts, LastCut, NewAnswer, NewCut, NewRaise, accepts}
 use Rattle.season_laws.specs.NextRounds.{EveryRequestIsAnswered}
 use Rattle.season_commands.specs.Runs.{Answers}
 use Rattle.dossier_file.specs.Due.{cuts_accepted, is_cut_by}

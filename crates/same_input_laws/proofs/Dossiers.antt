@@ -16,7 +16,7 @@ use Rattle.season_audit.specs.Best.{IsBestVerdict}
 use Rattle.season_audit.specs.Laws.{OneBestVerdict}
 use Rattle.season_audit.specs.declared.verdict.BestVerdict.{BestVerdict}
 use Rattle.one_output.specs.Laws.{OneKeptSeason}
-use Rattle.dossier_file.proofs.CutLemmas.{one_cut}
+use Rattle.dossier_file.proofs.SplitLemmas.{one_split}
 
 -- The laws of the layers below.
 pub record Laws : Type 0 where
@@ -37,7 +37,7 @@ audited_papers papers = record { rounds = map (λ read. read.rows) papers.rounds
 
 same_dossier : Laws → (bytes : List ℕ) (dossier other : Dossier) → IsDossier bytes dossier → IsDossier bytes other → AreSameDossier dossier other
 same_dossier laws bytes dossier other first second =
-    let cut = one_cut bytes first.bundle first.requests first.published second.bundle second.requests second.published first.cut second.cut in
+    let cut = one_split bytes first.bundle first.requests first.published second.bundle second.requests second.published first.cut second.cut in
     let same = laws.seasons second.bundle dossier.season other.season (subst (λ (b : List ℕ). IsSeason b dossier.season) cut.bundles first.of_season) second.of_season in
     let script : dossier.script ≡ other.script = (let a = first.of_script.1 in let b = second.of_script.1 in let e = cut.scripts in cc) in
     let by_season = subst (λ (f : SeasonFacts). AreDuePapers f.matrix f.people f.rounds other.script second.published (papers_of other)) (sym same) second.of_papers in

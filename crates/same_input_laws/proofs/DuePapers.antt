@@ -15,7 +15,7 @@ use Rattle.publish.specs.declared.reads.FinalRead.{FinalRead}
 use Rattle.publish.specs.declared.reads.RoundRead.{RoundRead}
 use Rattle.office_moves.specs.Facts.{SeasonFacts}
 use Rattle.office_moves.specs.State.{State}
-use Rattle.histories.specs.Orderly.{IsOrderly}
+use Rattle.history_laws.specs.Orderly.{IsOrderly}
 use Rattle.season_laws.specs.ReadBack.{IsReadBack}
 use Rattle.dossier_file.specs.Due.{due, lists_due, published_by}
 use Rattle.dossier_file.specs.Papers.{ArePapers, no_papers}

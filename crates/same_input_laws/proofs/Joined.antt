@@ -4,7 +4,7 @@ use Rattle.std.specs.Prelude.{◌&&◌, codes}
 use Rattle.std.proofs.lemmas.List.{length-append}
 use Rattle.office_text.specs.Lines.{drop_cr, skip_mark, trimmed}
 use Rattle.season_file.specs.Bundle.{after_line, line_len, title}
-use Rattle.dossier_file.specs.Cut.{BeginsLine, IsTitledAt}
+use Rattle.dossier_file.specs.Split.{BeginsLine, IsTitledAt}
 use Rattle.same_input_laws.specs.Joined.{AreWholeLines, HaveNoLine, JoinedAreCut}
 
 -- ---- fronts

@@ -23,8 +23,8 @@ use Rattle.office_moves.specs.Promise.{IsJust}
 use Rattle.office_moves.specs.Raised.{matrix_of_round}
 use Rattle.office_moves.specs.State.{State}
 use Rattle.season_facts.specs.Season.{facts_of}
-use Rattle.histories.specs.Orderly.{IsOrderly}
-use Rattle.histories.proofs.Entering.{entrants}
+use Rattle.history_laws.specs.Orderly.{IsOrderly}
+use Rattle.history_laws.proofs.Entering.{entrants}
 use Rattle.dossier_file.specs.Due.{cuts_accepted}
 use Rattle.dossier_file.specs.Kept.{NamesOnce}
 use Rattle.dossier_file.specs.Papers.{AreDuePapers}

@@ -45,11 +45,11 @@ use Rattle.office_moves.specs.declared.moves.Act.{Act}
 use Rattle.office_moves.specs.declared.moves.Entry.{Entry}
 use Rattle.office_moves.specs.declared.moves.Reply.{Reply}
 use Rattle.office_moves.proofs.Grows.{does_grows, get_stays, move_steps}
-use Rattle.histories.specs.Laws.{HistoryGrows}
-use Rattle.histories.specs.Orderly.{IsOrderly}
-use Rattle.histories.proofs.Changes.{Accepts, LastCut, NewAnswer, NewCut, NewRaise, accepts}
-use Rattle.histories.proofs.Entering.{entrants}
-use Rattle.histories.proofs.Fits.{map_at}
+use Rattle.history_laws.specs.Laws.{HistoryGrows}
+use Rattle.history_laws.specs.Orderly.{IsOrderly}
+use Rattle.history_laws.proofs.Changes.{Accepts, LastCut, NewAnswer, NewCut, NewRaise, accepts}
+use Rattle.history_laws.proofs.Entering.{entrants}
+use Rattle.history_laws.proofs.Fits.{map_at}
 use Rattle.season_commands.specs.Runs.{Answers}
 use Rattle.list_audit.specs.Clauses.{IsListFault, list_of_step}
 use Rattle.audit_rules.specs.Cut.{Agree, CutHolds, HasStayed, HoldsAt, IsSought, is_named, lists_at, seat_given, seekers_at, sought_by}

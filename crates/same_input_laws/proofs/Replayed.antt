@@ -13,7 +13,7 @@ use Rattle.office_moves.specs.State.{State}
 use Rattle.office_moves.specs.declared.moves.Act.{Act}
 use Rattle.office_moves.specs.declared.moves.Act.TheVariants.{Answer, Raise, Cut}
 use Rattle.office_moves.specs.declared.moves.Reply.{Reply}
-use Rattle.histories.specs.Laws.{HistoryGrows}
+use Rattle.history_laws.specs.Laws.{HistoryGrows}
 use Rattle.replays.specs.Replay.{IsReplayed, Pass, RowsPass, rows_replayed, takes, window_of, with_act}
 use Rattle.replays.proofs.Passed.{closes_by, stays_by}
 use Rattle.replays.proofs.RowLemmas.{row_moves}

@@ -6,7 +6,7 @@ use Rattle.kept_rows.specs.declared.rows.Kept.{Kept}
 use Rattle.office_moves.specs.Facts.{IsSound, SeasonFacts}
 use Rattle.replays.specs.Replay.{IsReplayed}
 use Rattle.office_moves.specs.State.{State}
-use Rattle.histories.specs.Laws.{HistoryGrows}
+use Rattle.history_laws.specs.Laws.{HistoryGrows}
 use Rattle.round_cut.specs.Resume.{IsResumed}
 use Rattle.season_commands.specs.Laws.{OneRun}
 use Rattle.season_commands.specs.Runs.{AfterSome, Answers}

@@ -4,8 +4,8 @@ use Rattle.office_moves.specs.Facts.{IsSound, SeasonFacts}
 use Rattle.office_moves.specs.History.{IsHistory, Reaches}
 use Rattle.office_moves.specs.State.{State, opening}
 use Rattle.office_moves.specs.declared.moves.Entry.{Entry}
-use Rattle.histories.specs.Laws.{HistoryGrows}
-use Rattle.histories.specs.Orderly.{IsOrderly}
+use Rattle.history_laws.specs.Laws.{HistoryGrows}
+use Rattle.history_laws.specs.Orderly.{IsOrderly}
 use Rattle.season_laws.specs.NextRounds.{EveryRequestIsAnswered}
 use Rattle.season_laws.specs.ReadBack.{PublishedIsRead}
 use Rattle.season_facts.specs.Season.{facts_of}
@@ -13,7 +13,7 @@ use Rattle.one_output.specs.Laws.{SeasonsAreSound}
 use Rattle.office_base.specs.Limits.{most_bundle_bytes}
 use Rattle.one_output.specs.VerdictLaws.{OneVerdictOfBytes}
 use Rattle.audit_command.specs.Audit.{HaveOneAudit}
-use Rattle.dossier_file.specs.Cut.{IsCut}
+use Rattle.dossier_file.specs.Split.{IsSplit}
 use Rattle.dossier_file.specs.Dossier.{AreDossier}
 use Rattle.dossier_file.specs.Due.{cuts_accepted, due}
 use Rattle.dossier_file.specs.Papers.{ArePapers}
@@ -44,7 +44,7 @@ seasons_have_dossiers laws audit one more sounds orderly grows every reads bundl
           let cuts : state.now ≡ cuts_accepted season.rounds 0 script = omega (arith, many) in
           let no_clause = papers_are_sound laws facts sound (grows facts) (λ entries held reached. orderly facts entries held sound reached) state order script output answers in
           let all_best = papers_are_best laws facts sound (grows facts) (λ entries held reached. orderly facts entries held sound reached) state order script output answers in
-          let is : (bytes : List ℕ) → length bytes ≤ most_bundle_bytes → IsCut bytes bundle requests (texts_told facts state) → AreDossier bytes season script (papers_told facts state) =
+          let is : (bytes : List ℕ) → length bytes ≤ most_bundle_bytes → IsSplit bytes bundle requests (texts_told facts state) → AreDossier bytes season script (papers_told facts state) =
           λ bytes short cut. record {
             short = short;
             bundle = bundle;

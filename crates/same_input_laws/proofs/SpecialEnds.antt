@@ -14,10 +14,10 @@ use Rattle.office_moves.specs.History.{Reaches}
 use Rattle.office_moves.specs.Raised.{matrix_at}
 use Rattle.office_moves.specs.State.{State, opening}
 use Rattle.office_moves.specs.declared.moves.Entry.{Entry}
-use Rattle.histories.specs.Laws.{HistoryGrows}
+use Rattle.history_laws.specs.Laws.{HistoryGrows}
 use Rattle.replays.specs.Replay.{IsReplayed}
 use Rattle.round_cut.specs.Resume.{IsResumed}
-use Rattle.histories.specs.Orderly.{IsOrderly}
+use Rattle.history_laws.specs.Orderly.{IsOrderly}
 use Rattle.special_round.specs.Laws.{FinalsAreKnown}
 use Rattle.special_round.specs.Special.{IsSpecialOver}
 use Rattle.command_answers.specs.Answers.{HasLeft}

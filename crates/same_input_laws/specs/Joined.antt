@@ -2,7 +2,7 @@
 use Rattle.std.specs.Prelude.{◌≡◌, ◌≢◌, ◌≤◌, ◌<◌, ◌⊎◌, ℕ, List, [], ◌∷◌, ◌++◌, codes, drop, length}
 use Rattle.office_text.specs.Lines.{skip_mark}
 use Rattle.season_file.specs.Bundle.{title}
-use Rattle.dossier_file.specs.Cut.{BeginsLine, IsCut}
+use Rattle.dossier_file.specs.Split.{BeginsLine, IsSplit}
 
 -- a bundle, the requests and the published texts, each behind its line
 abbrev pub joined_bytes : List ℕ → List ℕ → List ℕ → List ℕ
@@ -26,4 +26,4 @@ pub record CanBeJoined (bundle requests : List ℕ) : Type 0 where
   pub no_published : HaveNoLine (codes "[published]") requests
 
 abbrev pub JoinedAreCut : Type 0
-JoinedAreCut = (bundle requests texts : List ℕ) → CanBeJoined bundle requests → IsCut (joined_bytes bundle requests texts) bundle requests texts
+JoinedAreCut = (bundle requests texts : List ℕ) → CanBeJoined bundle requests → IsSplit (joined_bytes bundle requests texts) bundle requests texts

@@ -17,7 +17,7 @@ use Rattle.office_moves.specs.Moves.{allot_rows}
 use Rattle.office_moves.specs.State.{State, opening}
 use Rattle.season_facts.specs.Season.{facts_of}
 use Rattle.season_commands.specs.Runs.{Answers}
-use Rattle.dossier_file.specs.Cut.{IsCut}
+use Rattle.dossier_file.specs.Split.{IsSplit}
 use Rattle.dossier_file.specs.Dossier.{AreDossier, IsScript}
 use Rattle.dossier_file.specs.Papers.{AreDuePapers}
 use Rattle.dossier_file.specs.declared.papers.Papers.{Papers as Read}
@@ -99,7 +99,7 @@ pub record IsOwnDossier (bundle requests : List ℕ) (season : Season) (script :
   -- its texts are the ones that are due, and say what the state holds
   pub due : AreDuePapers season.matrix season.register.people season.rounds script (texts_told (facts_of season) state) (papers_told (facts_of season) state)
   -- bytes that are cut into the bundle, the requests and these texts are a dossier
-  pub whole : (bytes : List ℕ) → length bytes ≤ most_bundle_bytes → IsCut bytes bundle requests (texts_told (facts_of season) state)
+  pub whole : (bytes : List ℕ) → length bytes ≤ most_bundle_bytes → IsSplit bytes bundle requests (texts_told (facts_of season) state)
       → AreDossier bytes season script (papers_told (facts_of season) state)
   -- so are the three put together, unless these bytes are too many
   pub together : CanBeJoined bundle requests → length (joined_bytes bundle requests (texts_told (facts_of season) state)) ≤ most_bundle_bytes
@@ -108,7 +108,7 @@ pub record IsOwnDossier (bundle requests : List ℕ) (season : Season) (script :
   pub sound : IsVerdict (facts_of season) script (audited_papers (papers_told (facts_of season) state)) (Sound (length state.rounds))
   pub best : IsBestVerdict (facts_of season) script (audited_papers (papers_told (facts_of season) state)) Best
   -- and this is what an audit of such bytes writes
-  pub audited : (bytes : List ℕ) → length bytes ≤ most_bundle_bytes → IsCut bytes bundle requests (texts_told (facts_of season) state) → AreAuditedWell bytes (length state.rounds)
+  pub audited : (bytes : List ℕ) → length bytes ≤ most_bundle_bytes → IsSplit bytes bundle requests (texts_told (facts_of season) state) → AreAuditedWell bytes (length state.rounds)
 
 -- A season with its requests has a dossier: the office answers them all, and what it publishes in doing so is one.
 pub record HasDossier (bundle requests : List ℕ) (season : Season) (script : List Request) : Type 0 where

@@ -30,7 +30,7 @@ pub fn resumes_are_one()
     season_file::laws::one_reading();
     season_commands::laws::one_script_answer();
     one_output::laws::one_season();
-    histories::laws::history_grows();
+    history_laws::laws::history_grows();
     replays::laws::one_end();
     season_commands::laws::one_run();
 }
@@ -40,7 +40,7 @@ pub fn resumes_are_one()
 pub fn histories_keep_one()
     ensures { HistoriesKeepOne }
 {
-    histories::laws::one_history();
+    history_laws::laws::one_history();
 }
 
 /// Two runs of `units` over the same bytes write the same.
@@ -59,8 +59,8 @@ pub fn specials_are_one()
     season_file::laws::one_reading();
     one_output::laws::one_season();
     replays::laws::one_end();
-    histories::laws::history_grows();
-    histories::laws::orderly();
+    history_laws::laws::history_grows();
+    history_laws::laws::orderly();
     special_round::laws::finals_are_known();
     slot_cert::laws::one_certificate();
     choice_lists::laws::one_reading();
@@ -88,8 +88,8 @@ pub fn seasons_have_dossiers()
     ensures { SeasonsHaveDossiers }
 {
     one_output::laws::one_season();
-    histories::laws::orderly();
-    histories::laws::history_grows();
+    history_laws::laws::orderly();
+    history_laws::laws::history_grows();
     season_laws::laws::every_request_is_answered();
     season_laws::laws::published_is_read();
     merit_choice::laws::choice_size();

@@ -12,7 +12,7 @@ use Rattle.kept_rows.specs.declared.rows.AllotRow.{AllotRow}
 use Rattle.allocations.specs.Fair.{IsBest}
 use Rattle.allocations.specs.Market.{Seeker, rank_of}
 use Rattle.choice_lists.specs.Choices.{list_of}
-use Rattle.histories.proofs.Entering.{list_there, lists_full, own_there}
+use Rattle.history_laws.proofs.Entering.{list_there, lists_full, own_there}
 use Rattle.rounds.specs.Round.{IsRound}
 use Rattle.rounds.specs.Rule.{AreSeeks, rule_of, seekers_of}
 use Rattle.rounds.specs.declared.round.Round.{Round}
@@ -26,7 +26,7 @@ use Rattle.office_moves.specs.State.{State}
 use Rattle.audit_rules.specs.Cut.{seekers_at, sought_by}
 use Rattle.audit_rules.specs.Papers.{Papers, rows_after, seat_told, seats_told}
 use Rattle.audit_rules.proofs.FairCuts.{enters, full_seekers}
-use Rattle.audit_rules.proofs.Along.{read_at}
+use Rattle.audit_rules.proofs.RegisterLists.{read_at}
 use Rattle.season_audit.specs.Best.{AreBestAt, Gains, GainsFirst, IsBestCut, IsBetter, seats_given}
 use Rattle.season_audit.specs.Compared.{AreCompared, IsFairText, Setting}
 use Rattle.season_audit.specs.Audit.{IsUpTo}

@@ -19,7 +19,7 @@ use Rattle.office_moves.specs.declared.decide.Decision.TheVariants.{Publish, Fin
 use Rattle.office_moves.specs.declared.moves.Act.TheVariants.{Cut}
 use Rattle.office_moves.specs.declared.refusal.Refusal.TheVariants.{Denied, Ahead}
 use Rattle.office_moves.specs.History.{newly}
-use Rattle.histories.proofs.Changes.{Accepts, accepts}
+use Rattle.history_laws.proofs.Changes.{Accepts, accepts}
 use Rattle.audit_rules.specs.Fair.{AreFairRounds}
 use Rattle.audit_rules.specs.Laws.{OneVerdict}
 use Rattle.audit_rules.specs.Papers.{Papers}

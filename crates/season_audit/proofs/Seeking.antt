@@ -8,8 +8,8 @@ use Rattle.office_base.specs.declared.person.Person.{Person}
 use Rattle.office_base.specs.declared.person.ProgId.{ProgId}
 use Rattle.office_base.proofs.Lists.{there_is}
 use Rattle.choice_lists.specs.Choices.{list_of}
-use Rattle.histories.proofs.Entering.{list_there, lists_full}
-use Rattle.histories.proofs.Fits.{map_at, within, some_one}
+use Rattle.history_laws.proofs.Entering.{list_there, lists_full}
+use Rattle.history_laws.proofs.Fits.{map_at, within, some_one}
 use Rattle.round_options.specs.Options.{holds}
 use Rattle.rounds.specs.Rule.{AreSeeks}
 use Rattle.seeks.specs.Seek.{IsWithinList}
@@ -18,7 +18,7 @@ use Rattle.office_moves.specs.Facts.{IsSound, SeasonFacts, lists_in_order}
 use Rattle.office_moves.specs.Moves.{next_seek, next_seeks}
 use Rattle.office_moves.specs.State.{State, last_seat, standing_at, view_of}
 use Rattle.audit_rules.specs.InOrder.{IsInOrder}
-use Rattle.audit_rules.proofs.Along.{read_at}
+use Rattle.audit_rules.proofs.RegisterLists.{read_at}
 use Rattle.audit_rules.specs.Stands.{seek_by, stand_of, stands_along}
 use Rattle.audit_rules.specs.declared.stand.Stand.{Stand}
 

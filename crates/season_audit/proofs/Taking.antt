@@ -19,7 +19,7 @@ use Rattle.rank_lists.specs.Register.{find_person, row_of}
 use Rattle.seat_matrix.specs.Laws.{OneStepChanges}
 use Rattle.seat_matrix.specs.Matrix.{SeatTable, matrix_with, seating_in}
 use Rattle.round_options.specs.declared.standing.Standing.TheVariants.{Waiting}
-use Rattle.office_moves.specs.Decided.{answer_looks, decide_answer, decide_cut, decide_raise_of, decided, raise_looks, same_raise}
+use Rattle.office_moves.specs.Decided.{answer_facts, decide_answer, decide_cut, decide_raise_of, decided, raise_facts, same_raise}
 use Rattle.office_moves.specs.Facts.{IsSound, SeasonFacts}
 use Rattle.office_moves.specs.History.{newly}
 use Rattle.office_moves.specs.Judge.{is_clerk, refuse_if}
@@ -27,7 +27,7 @@ use Rattle.office_moves.specs.Raised.{matrix_at}
 use Rattle.office_moves.specs.State.{State, opening, view_of, with_raise, with_round, with_row}
 use Rattle.office_moves.specs.declared.decide.Decision.{Decision}
 use Rattle.office_moves.specs.declared.decide.Decision.TheVariants.{CutAgain, Note, Lift, Publish, Finish}
-use Rattle.office_moves.specs.declared.decide.RaiseLooks.{RaiseLooks}
+use Rattle.office_moves.specs.declared.decide.RaiseFacts.{RaiseFacts}
 use Rattle.office_moves.specs.declared.moves.Act.{Act}
 use Rattle.office_moves.specs.declared.moves.Act.TheVariants.{Raise as ARaise}
 use Rattle.office_moves.specs.declared.refusal.Refusal.TheVariants.{Ahead, Denied}
@@ -44,11 +44,11 @@ use Rattle.audit_rules.proofs.Ordering.{before_next, in_order_at_first, in_order
 use Rattle.audit_rules.specs.Raises.{lifts}
 use Rattle.audit_rules.specs.Stands.{after_answer, notes, stand_of, stands_along}
 use Rattle.audit_rules.specs.declared.stand.Stand.{Stand}
-use Rattle.audit_rules.proofs.Along.{AreRising, set_along}
-use Rattle.audit_rules.proofs.Lifting.{is_lifted, not_lifted, opened}
-use Rattle.audit_rules.proofs.Noting.{is_noted, next_turn, not_noted, unknown_not_noted}
-use Rattle.audit_rules.proofs.Stood.{stand_answered, stand_other}
-use Rattle.audit_rules.proofs.Telling.{known, stands}
+use Rattle.audit_rules.proofs.RegisterLists.{AreRising, set_along}
+use Rattle.audit_rules.proofs.TakenRaises.{is_lifted, not_lifted, opened}
+use Rattle.audit_rules.proofs.NotedAnswers.{is_noted, next_turn, not_noted, unknown_not_noted}
+use Rattle.audit_rules.proofs.NextStandings.{stand_answered, stand_other}
+use Rattle.audit_rules.proofs.SeatsOfRows.{known, stands}
 use Rattle.audit_rules.specs.declared.fault.Fault.{Fault}
 use Rattle.dossier_file.specs.Due.{cuts_accepted}
 use Rattle.list_texts.specs.declared.lists.ListRead.{ListRead}
@@ -101,7 +101,7 @@ not_now facts state by row other = go (newly state.now (answer_by facts state by
     go : (o : Option Act) → newly state.now (answer_by facts state by row) ≡ o → o ≡ None
     go None e = refl
     go (Some act) e =
-        let n = answer_new state.now (answer_looks facts (view_of state row.cand.0) row) by row act e in
+        let n = answer_new state.now (answer_facts facts (view_of state row.cand.0) row) by row act e in
         let time = is_open state.now facts.rounds row.window n.opened in
         absurd (other time.0 (let same = time.0 in let few = time.1 in omega (arith, same, few)))
 
@@ -183,8 +183,8 @@ abbrev pub raise_by : SeasonFacts → State → By → RaiseRow → Decision
 raise_by facts state by row = decide_raise_of facts state by row
 
 -- the looks of a raise
-pub looks_are : (facts : SeasonFacts) (state : State) (row : RaiseRow) (old : Auditor) (rounds : ℕ) (looks : RaiseLooks) → IsUpTo facts state old → rounds ≡ facts.rounds
-    → looks ≡ looks_at old.raised old.window rounds row → looks ≡ raise_looks facts state row
+pub looks_are : (facts : SeasonFacts) (state : State) (row : RaiseRow) (old : Auditor) (rounds : ℕ) (looks : RaiseFacts) → IsUpTo facts state old → rounds ≡ facts.rounds
+    → looks ≡ looks_at old.raised old.window rounds row → looks ≡ raise_facts facts state row
 looks_are facts state row old rounds looks upto r made =
     made ∙ (ap (λ (n : ℕ). looks_at old.raised n rounds row) upto.window ∙ (ap (λ (n : ℕ). looks_at old.raised state.now n row) r
     ∙ (ap (λ (m : SeatTable). looks_at (record { matrix = m; raises = old.raised.raises; room = old.raised.room }) state.now facts.rounds row) upto.matrix
@@ -192,26 +192,26 @@ looks_are facts state row old rounds looks upto r made =
 
 -- a raise that is taken lifts the matrix
 pub lift_is : (facts : SeasonFacts) (state : State) (by : By) (row : RaiseRow) (old : Auditor) → IsUpTo facts state old → row.prog.0 < length facts.matrix.programmes
-    → lifts (raise_looks facts state row) by row ≡ true → IsLift old.raised.matrix row
+    → lifts (raise_facts facts state row) by row ≡ true → IsLift old.raised.matrix row
 lift_is facts state by row old upto below passes =
-    let decides : raise_by facts state by row ≡ Lift row = is_lifted (raise_looks facts state row) by row passes in
-    let n = raise_new state.now (raise_looks facts state row) by row (ARaise row) (ap (newly state.now) decides) in
+    let decides : raise_by facts state by row ≡ Lift row = is_lifted (raise_facts facts state row) by row passes in
+    let n = raise_new state.now (raise_facts facts state row) by row (ARaise row) (ap (newly state.now) decides) in
     subst (λ (m : SeatTable). IsLift m row) (sym upto.matrix) (was_lift facts state row (subst (λ z. row.prog.0 < length z) (sym upto.order.programmes) below) n.next)
 
 -- and is none of those that were accepted
-pub lift_fresh : (facts : SeasonFacts) (state : State) (by : By) (row : RaiseRow) (old : Auditor) → IsUpTo facts state old → lifts (raise_looks facts state row) by row ≡ true
+pub lift_fresh : (facts : SeasonFacts) (state : State) (by : By) (row : RaiseRow) (old : Auditor) → IsUpTo facts state old → lifts (raise_facts facts state row) by row ≡ true
     → list_any (same_raise row) old.raised.raises ≡ false
 lift_fresh facts state by row old upto passes =
-    let decides : raise_by facts state by row ≡ Lift row = is_lifted (raise_looks facts state row) by row passes in
-    let n = raise_new state.now (raise_looks facts state row) by row (ARaise row) (ap (newly state.now) decides) in
+    let decides : raise_by facts state by row ≡ Lift row = is_lifted (raise_facts facts state row) by row passes in
+    let n = raise_new state.now (raise_facts facts state row) by row (ARaise row) (ap (newly state.now) decides) in
     ap (list_any (same_raise row)) upto.raises ∙ n.fresh
 
 pub lifted : OneStepChanges → (facts : SeasonFacts) (papers : Papers) (state : State) (by : By) (row : RaiseRow) (old new : Auditor) → IsUpTo facts state old → row.prog.0 < length facts.matrix.programmes
-    → lifts (raise_looks facts state row) by row ≡ true → new.window ≡ old.window → new.raised.raises ≡ old.raised.raises ++ row ∷ []
+    → lifts (raise_facts facts state row) by row ≡ true → new.window ≡ old.window → new.raised.raises ≡ old.raised.raises ++ row ∷ []
     → new.raised.matrix ≡ matrix_with old.raised.matrix row.prog.0 row.step (record { seats = row.seats; protections = (seating_in old.raised.matrix row.prog.0 row.step).protections }) → new.stands ≡ old.stands
     → Passes facts papers state (raise_by facts state by row) new
 lifted law facts papers state by row old new upto below passes window raises matrix same =
-    let decides : raise_by facts state by row ≡ Lift row = is_lifted (raise_looks facts state row) by row passes in
+    let decides : raise_by facts state by row ≡ Lift row = is_lifted (raise_facts facts state row) by row passes in
     let lift = subst (λ (m : SeatTable). IsLift m row) upto.matrix (lift_is facts state by row old upto below passes) in
     let table : matrix_at facts (with_raise state row)
     ≡ matrix_with (matrix_at facts state) row.prog.0 row.step (record { seats = row.seats; protections = (seating_in (matrix_at facts state) row.prog.0 row.step).protections }) =
@@ -229,10 +229,10 @@ lifted law facts papers state by row old new upto below passes window raises mat
       });
     }
 
-pub unlifted : (facts : SeasonFacts) (papers : Papers) (state : State) (by : By) (row : RaiseRow) (auditor : Auditor) → IsUpTo facts state auditor → lifts (raise_looks facts state row) by row ≡ false
+pub unlifted : (facts : SeasonFacts) (papers : Papers) (state : State) (by : By) (row : RaiseRow) (auditor : Auditor) → IsUpTo facts state auditor → lifts (raise_facts facts state row) by row ≡ false
     → Passes facts papers state (raise_by facts state by row) auditor
 unlifted facts papers state by row auditor upto fails =
-    quiet facts papers state (raise_by facts state by row) auditor (not_lifted state.now (raise_looks facts state row) by row fails) upto
+    quiet facts papers state (raise_by facts state by row) auditor (not_lifted state.now (raise_facts facts state row) by row fails) upto
 
 -- ---- cuts
 

@@ -4,12 +4,12 @@ ghost use Rattle.allocations.specs.Market.{rank_of};
 ghost use Rattle.season_facts.specs.Season.{facts_of};
 ghost use Rattle.season_audit.specs.Compared.{AreCompared, GainComesTo, Setting};
 
+use cut_arrays::place_of;
 use office_base::{CandId, OutOfMemory, ProgId, Seat};
 use season_file::Season;
 use seat_matrix::Matrix;
 use seeks::{Seek, push_left};
 use std::alloc::Global;
-use window_ends::place_of;
 
 /// Returns how far down a list a seat is; no seat is after the whole list.
 fn rank_of(list: &[ProgId], seat: Option<Seat>) -> usize

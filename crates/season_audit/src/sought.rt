@@ -9,13 +9,13 @@ ghost use Rattle.audit_rules.specs.InOrder.{IsInOrder};
 ghost use Rattle.audit_rules.specs.Stands.{seek_by, stands_along};
 
 use audit_rules::Stand;
+use cut_arrays::place_of;
 use office_base::{OutOfMemory, ProgId, Seat};
 use round_options::next_seek;
 use rounds::Seeks;
 use season_file::Season;
 use seeks::Seek;
 use std::alloc::Global;
-use window_ends::place_of;
 
 /// Returns the place of a seat in a list, where there is a seat.
 fn seat_place(list: &[ProgId], seat: Option<Seat>) -> Option<u16>

@@ -10,7 +10,7 @@ use Rattle.kept_rows.specs.declared.rows.AnswerRow.{AnswerRow}
 use Rattle.kept_rows.specs.declared.rows.RaiseRow.{RaiseRow}
 use Rattle.office_moves.specs.Facts.{SeasonFacts, find_programme}
 use Rattle.office_moves.specs.State.{State, view_of}
-use Rattle.office_moves.specs.Decided.{answer_looks, decided_by, raise_looks}
+use Rattle.office_moves.specs.Decided.{answer_facts, decided_by, raise_facts}
 use Rattle.office_moves.specs.Moves.{Does, Tells}
 use Rattle.office_moves.specs.declared.decide.Decision.{Decision}
 use Rattle.office_moves.specs.declared.decide.Decision.TheVariants.{Refuse, NotedAgain, CutAgain, Note, Publish, Tell}
@@ -74,12 +74,12 @@ Counts ask decision = cond (notes decision) 1 0 + cond (is_answer ask && refuses
 counted : (facts : SeasonFacts) (state : State) (by : By) (ask : Ask) → Counts ask (decided_by facts state by ask)
 counted facts state by (Answer cand window turn choice) =
     let row : AnswerRow = record { window = window; cand = cand; turn = turn; choice = choice } in
-    answer_keeps (Counts (Answer cand window turn choice)) (λ r. refl) (answer_looks facts (view_of state cand.0) row) by row refl refl
+    answer_keeps (Counts (Answer cand window turn choice)) (λ r. refl) (answer_facts facts (view_of state cand.0) row) by row refl refl
 counted facts state by (Cut window) = cut_keeps (Counts (Cut window)) (λ r. refl) by state.now facts.rounds window refl refl refl
 counted facts state by (Raise window code step seats) =
     programme_keeps (Counts (Raise window code step seats)) (λ r. refl) (find_programme facts code) _
     (λ prog is. let row : RaiseRow = record { window = window; prog = prog; step = step; seats = seats } in
-    raise_keeps (Counts (Raise window code step seats)) (λ r. refl) (raise_looks facts state row) by row refl refl)
+    raise_keeps (Counts (Raise window code step seats)) (λ r. refl) (raise_facts facts state row) by row refl refl)
 counted facts state by ask = question_keeps (Counts ask) (λ r. refl) facts state by ask refl (λ question. refl)
 
 counts_for : (facts : SeasonFacts) (old new : State) (by : By) (ask : Ask) (reply : Reply) → Does facts old (decided_by facts old by ask) reply new

@@ -7,8 +7,8 @@ use Rattle.office_moves.specs.Decided.{decided}
 use Rattle.office_moves.specs.History.{Reaches, grown, newly}
 use Rattle.office_moves.specs.Laws.{CutoffsAreOne, NextRoundsAreOne, OneNextRound, OneReply}
 use Rattle.office_moves.specs.declared.moves.Entry.{Entry}
-use Rattle.histories.specs.Laws.{HistoryGrows}
-use Rattle.histories.specs.Orderly.{IsOrderly}
+use Rattle.history_laws.specs.Laws.{HistoryGrows}
+use Rattle.history_laws.specs.Orderly.{IsOrderly}
 use Rattle.season_commands.specs.Laws.{OneRun}
 use Rattle.shown_replies.specs.Shown.{reply_bytes}
 use Rattle.season_commands.specs.Runs.{Answers}

@@ -15,7 +15,7 @@ use Rattle.office_moves.specs.Promise.{KeepsItsWord}
 use Rattle.office_moves.specs.Stands.{Stand}
 use Rattle.office_moves.specs.declared.moves.Entry.{Entry}
 use Rattle.office_moves.specs.declared.moves.Reply.{Reply}
-use Rattle.histories.specs.Laws.{HistoryGrows}
+use Rattle.history_laws.specs.Laws.{HistoryGrows}
 use Rattle.proceedings.specs.Proceeding.{last_of as last_number}
 use Rattle.round_cut.specs.declared.fault.OfficeFault.{OfficeFault}
 use Rattle.shown_replies.specs.Shown.{reply_bytes}

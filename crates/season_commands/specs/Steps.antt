@@ -1,6 +1,6 @@
 -- One request of a run, from the moment before it to the moment after it.
 use Rattle.std.specs.Prelude.{◌≡◌, ◌⊎◌, ◌+◌, ℕ, List, Option, length, take}
-use Rattle.keeper_mem.specs.Keeper.{Shelf}
+use Rattle.keeper_mem.specs.Keeper.{KeeperView}
 use Rattle.kept_rows.specs.Tables.{IsTold, Tables}
 use Rattle.office_base.specs.Outside.{Appends}
 use Rattle.office_base.specs.declared.asks.Request.{Request}
@@ -13,7 +13,7 @@ use Rattle.office_moves.specs.Stands.{Stand}
 use Rattle.office_moves.specs.declared.moves.Entry.{Entry}
 use Rattle.office_moves.specs.declared.moves.Reply.{Reply}
 use Rattle.proceedings.specs.Proceeding.{last_of}
-use Rattle.round_cut.specs.Office.{Opened}
+use Rattle.round_cut.specs.Office.{OfficeView}
 use Rattle.shown_replies.specs.Shown.{reply_bytes}
 
 -- a moment of a run: the state of the office, its entries, the tables of its keeper, and what is written so far
@@ -24,7 +24,7 @@ pub record Moment : Type 0 where
   pub written : Option (List ℕ)
 
 -- the moment of an office, by the tables of its keeper and what is written
-abbrev pub moment_of : {K : Type 0} → (K → Shelf) → Opened K → Option (List ℕ) → Moment
+abbrev pub moment_of : {K : Type 0} → (K → KeeperView) → OfficeView K → Option (List ℕ) → Moment
 moment_of seen office written = record { state = office.state; entries = office.entries; tables = (seen office.keeper).tables; written = written }
 
 -- the entries have what the request newly accepted, under the number after the last one
@@ -55,7 +55,7 @@ IsCutOff facts request old new = IsUnanswered old new ⊎ IsAnsweredInPart facts
 
 -- The office of the same season, in a state to which its entries lead, over tables that represent the state.
 -- What is visible of the tables now was visible before.
-pub record Continues {K : Type 0} (seen : K → Shelf) (old new : Opened K) : Type 0 where
+pub record Continues {K : Type 0} (seen : K → KeeperView) (old new : OfficeView K) : Type 0 where
   pub season : new.season ≡ old.season
   pub history : IsHistory new.season new.entries new.state
   pub stands : Stand new.season new.state (seen new.keeper).tables

@@ -20,10 +20,10 @@ pub fn prefix_is_a_run()
 pub fn one_run()
     ensures { (facts : SeasonFacts) → OneRun facts }
 {
-    histories::laws::history_grows();
-    histories::laws::orderly();
-    histories::laws::one_next_round();
-    histories::laws::cutoffs_are_one();
+    history_laws::laws::history_grows();
+    history_laws::laws::orderly();
+    history_laws::laws::one_next_round();
+    history_laws::laws::cutoffs_are_one();
     office_moves::laws::one_reply();
 }
 
@@ -31,10 +31,10 @@ pub fn one_run()
 pub fn one_tally()
     ensures { (facts : SeasonFacts) → OneTally facts }
 {
-    histories::laws::history_grows();
-    histories::laws::orderly();
-    histories::laws::one_next_round();
-    histories::laws::cutoffs_are_one();
+    history_laws::laws::history_grows();
+    history_laws::laws::orderly();
+    history_laws::laws::one_next_round();
+    history_laws::laws::cutoffs_are_one();
     office_moves::laws::one_reply();
 }
 

@@ -1,7 +1,7 @@
 // A script, answered request after request.
 ghost use Rattle.std.specs.Prelude.{ℕ, List, IfOk, OnOk, IsErrOf, IsOkUnless, take};
 ghost use Rattle.office_base.specs.Outside.{Appends, Fails, Rose};
-ghost use Rattle.histories.specs.Orderly.{IsOrderly};
+ghost use Rattle.history_laws.specs.Orderly.{IsOrderly};
 ghost use Rattle.office_moves.specs.History.{IsHistory};
 ghost use Rattle.office_moves.specs.Moves.{IsMove};
 ghost use Rattle.office_moves.specs.Stands.{Stand};
@@ -55,7 +55,7 @@ pub(crate) fn check_order<P: Keeper>(office: &Office<P>)
     requires { IsHistory office.now.season office.now.entries office.now.state }
     ensures { IsOrderly office.now.season office.now.state }
 {
-    histories::laws::orderly();
+    history_laws::laws::orderly();
     says_what_is_sound(office.season());
 }
 
@@ -122,8 +122,8 @@ pub(crate) fn next_reply<P: Keeper>(
     ensures stands { Stand office.new.season office.new.state (P.seen office.new.keeper).tables }
     ensures kept { KeepsOn P.seen office.old office.new result }
 {
-    histories::laws::history_grows();
-    histories::laws::orderly();
+    history_laws::laws::history_grows();
+    history_laws::laws::orderly();
     says_what_is_sound(office.season());
     let Some(number) = office.last_number().checked_add(1) else {
         return Err(OfficeFault::OutOfMemory);

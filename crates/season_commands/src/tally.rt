@@ -1,7 +1,7 @@
 // A script, answered request after request: no reply is written, and answers are counted.
 ghost use Rattle.std.specs.Prelude.{◌≡◌, ◌<◌, ◌+◌, ◌^◌, cond, IfOk, OnErr, IsErrOf};
 ghost use Rattle.office_base.specs.Outside.{Fails};
-ghost use Rattle.histories.specs.Orderly.{IsOrderly};
+ghost use Rattle.history_laws.specs.Orderly.{IsOrderly};
 ghost use Rattle.office_moves.specs.History.{IsHistory};
 ghost use Rattle.office_moves.specs.Stands.{Stand};
 ghost use Rattle.round_cut.specs.Answering.{KeepsOn};

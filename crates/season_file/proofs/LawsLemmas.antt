@@ -29,7 +29,7 @@ use Rattle.season_file.specs.declared.fault.SeasonFault.{SeasonFault}
 use Rattle.season_file.specs.declared.fault.SeasonFault.TheVariants.{ReadFault, TooLong, BadFirstLine, Section, BadSeason, Register, Matrix, Choices, NotUtf8, BadRequest, OutOfMemory}
 use Rattle.season_file.specs.declared.head.Head.{Head}
 use Rattle.season_file.specs.declared.content.Content.{Content}
-use Rattle.season_file.proofs.SeasonLemmas.{cutting_fault}
+use Rattle.season_file.proofs.SeasonLemmas.{splitting_fault}
 
 -- the laws of the sections
 pub record AreLawful : Type 0 where
@@ -238,7 +238,7 @@ some-head laws requests bytes parts text cut (Err row) e = inr (BadSeason row, (
 
 some-bundle : AreLawful → (requests : Bool) (bytes : List ℕ) → IsText bytes → (r : Result Parts SeasonFault) → bundle_of requests bytes ≡ r → HaveSome requests bytes
 some-bundle laws requests bytes text (Ok parts) e = some-head laws requests bytes parts text e (head_of (rows_of parts.season)) refl
-some-bundle laws requests bytes text (Err fault) e = elim (cutting_fault requests bytes fault e) [
+some-bundle laws requests bytes text (Err fault) e = elim (splitting_fault requests bytes fault e) [
   | inl same ↦ inr (BadFirstLine, (text, e ∙ ap Err same))
   | inr found ↦ inr (Section found.0, (text, e ∙ ap Err found.1))
 ]

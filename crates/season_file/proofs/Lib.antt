@@ -1,4 +1,4 @@
-pub mod CuttingLemmas
+pub mod BundleLines
 mod HeadLemmas
 mod KeptLemmas
 pub mod LawsLemmas

@@ -28,14 +28,14 @@ two_faults None text r fault e = inl cc
 two_faults (Some version) text r fault e = inr (line_told text (r version) fault e)
 
 -- A fault of the cutting is that of the first line, or of a section line.
-pub cutting_fault : (requests : Bool) (bytes : List ℕ) (fault : SeasonFault) → bundle_of requests bytes ≡ Err fault → (fault ≡ BadFirstLine) ⊎ ((line : ℕ) × (fault ≡ Section line))
-cutting_fault requests bytes fault e =
+pub splitting_fault : (requests : Bool) (bytes : List ℕ) (fault : SeasonFault) → bundle_of requests bytes ≡ Err fault → (fault ≡ BadFirstLine) ⊎ ((line : ℕ) × (fault ≡ Section line))
+splitting_fault requests bytes fault e =
     let mid : List ℕ = skip_mark bytes in
     two_faults (version_of (title mid)) mid (λ version. sections requests version (skip_empty (after_line mid))) fault e
 
 -- A fault of the cutting is the bundle's.
 pub cut-told : (requests : Bool) (bytes : List ℕ) (fault : SeasonFault) → IsText bytes → bundle_of requests bytes ≡ Err fault → IsSeasonFault requests bytes fault
-cut-told requests bytes fault text e = elim (cutting_fault requests bytes fault e) [
+cut-told requests bytes fault text e = elim (splitting_fault requests bytes fault e) [
   | inl same ↦ subst (IsSeasonFault requests bytes) (sym same) (text, subst (λ (f : SeasonFault). bundle_of requests bytes ≡ Err f) same e)
   | inr found ↦ subst (IsSeasonFault requests bytes) (sym found.1) (text, subst (λ (f : SeasonFault). bundle_of requests bytes ≡ Err f) found.1 e)
 ]

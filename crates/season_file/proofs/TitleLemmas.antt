@@ -4,7 +4,7 @@ use Rattle.std.proofs.lemmas.List.{take-append-drop}
 use Rattle.std.proofs.lemmas.Slice.Eq.{bytes_eq-Decides}
 use Rattle.std.specs.List.{AllByRecursion}
 use Rattle.std.specs.Prelude.{codes}
-use Rattle.office_text.specs.Lines.{cut_at, drop_cr, onto_first, skip_mark, trimmed}
+use Rattle.office_text.specs.Lines.{split_at_each, drop_cr, onto_first, skip_mark, trimmed}
 use Rattle.section_rows.proofs.StepsLemmas.{after_ok, needs_ok}
 use Rattle.season_file.specs.Bundle.{Parts, after_line, body_len, bundle_of, closed, last_section, line_len, section, sections, skip_empty, title, version_of, with_line}
 use Rattle.season_file.specs.Titles.{HasNoTitle, IsCutAtTitles, IsTitled, begins_title}
@@ -32,12 +32,12 @@ opened true pieces all = (refl, all)
 opened false pieces all = all
 
 -- No line of a body begins with `[`.
-no_titles : (begins : Bool) (bytes : List ℕ) → NoTitles begins (cut_at 10 (take (body_len begins bytes) bytes))
+no_titles : (begins : Bool) (bytes : List ℕ) → NoTitles begins (split_at_each 10 (take (body_len begins bytes) bytes))
 no_titles true [] = (refl, tt)
 no_titles false [] = tt
 no_titles begins (x ∷ bytes) = by (λ b. no_titles b bytes) (begins && eqb x 91) refl
   where
-    none : (begins : Bool) → NoTitles begins (cut_at 10 [])
+    none : (begins : Bool) → NoTitles begins (split_at_each 10 [])
     none true = (refl, tt)
     none false = tt
 
@@ -45,12 +45,12 @@ no_titles begins (x ∷ bytes) = by (λ b. no_titles b bytes) (begins && eqb x 9
     shut true e is = e
     shut false e is = absurd cc
 
-    more : ((b : Bool) → NoTitles b (cut_at 10 (take (body_len b bytes) bytes))) → (begins && eqb x 91) ≡ false → (lf : Bool) → eqb x 10 ≡ lf
-        → NoTitles begins (cond lf ([] ∷ cut_at 10 (take (body_len lf bytes) bytes)) (onto_first x (cut_at 10 (take (body_len lf bytes) bytes))))
-    more next test true is = opened begins (cut_at 10 (take (body_len true bytes) bytes)) (next true)
-    more next test false is = onto begins x (cut_at 10 (take (body_len false bytes) bytes)) (shut begins test) (next false)
+    more : ((b : Bool) → NoTitles b (split_at_each 10 (take (body_len b bytes) bytes))) → (begins && eqb x 91) ≡ false → (lf : Bool) → eqb x 10 ≡ lf
+        → NoTitles begins (cond lf ([] ∷ split_at_each 10 (take (body_len lf bytes) bytes)) (onto_first x (split_at_each 10 (take (body_len lf bytes) bytes))))
+    more next test true is = opened begins (split_at_each 10 (take (body_len true bytes) bytes)) (next true)
+    more next test false is = onto begins x (split_at_each 10 (take (body_len false bytes) bytes)) (shut begins test) (next false)
 
-    by : ((b : Bool) → NoTitles b (cut_at 10 (take (body_len b bytes) bytes))) → (test : Bool) → (begins && eqb x 91) ≡ test → NoTitles begins (cut_at 10 (take (cond test 0 (suc (body_len (eqb x 10) bytes))) (x ∷ bytes)))
+    by : ((b : Bool) → NoTitles b (split_at_each 10 (take (body_len b bytes) bytes))) → (test : Bool) → (begins && eqb x 91) ≡ test → NoTitles begins (split_at_each 10 (take (cond test 0 (suc (body_len (eqb x 10) bytes))) (x ∷ bytes)))
     by next true is = none begins
     by next false is = more next is (eqb x 10) refl
 

@@ -2,7 +2,7 @@
 use Rattle.std.specs.Prelude.{◌+◌, ◌-◌, ℕ, suc, Bool, true, ◌==◌, ◌&&◌, List, [], ◌∷◌, Option, Some, None, Result, Ok, Err, length, take, drop, bytes_eq, codes, if◌then◌else◌}
 use Rattle.office_text.specs.Lines.{drop_cr, lines_of, skip_mark, trimmed}
 use Rattle.section_rows.specs.Steps.{after, needs}
-use Rattle.season_file.specs.declared.cutting.Pieces.{Pieces}
+use Rattle.season_file.specs.declared.splitting.Pieces.{Pieces}
 use Rattle.season_file.specs.declared.fault.SeasonFault.{SeasonFault}
 use Rattle.season_file.specs.declared.fault.SeasonFault.TheVariants.{BadFirstLine, Section}
 

@@ -1,7 +1,7 @@
 -- That a bundle is cut at the lines that begin with `[`, and that title lines with the bodies between them give its bytes back.
 use Rattle.std.specs.Prelude.{◌≡◌, ◌≤◌, ◌⊎◌, ◌+◌, ℕ, Bool, false, ◌==◌, List, [], ◌∷◌, ◌++◌, length, codes}
 use Rattle.std.specs.List.{AllByRecursion}
-use Rattle.office_text.specs.Lines.{cut_at}
+use Rattle.office_text.specs.Lines.{split_at_each}
 use Rattle.season_file.specs.Bundle.{Parts, line_len, title}
 
 -- the line begins with `[`
@@ -11,7 +11,7 @@ begins_title (byte ∷ line) = byte == 91
 
 -- no line of these bytes begins with `[`
 abbrev pub HasNoTitle : List ℕ → Type 0
-HasNoTitle bytes = AllByRecursion (λ line. begins_title line ≡ false) (cut_at 10 bytes)
+HasNoTitle bytes = AllByRecursion (λ line. begins_title line ≡ false) (split_at_each 10 bytes)
 
 -- A text is a line of this title, then this body, of which no line begins with `[`, and then a rest, which is nothing or begins with `[`.
 -- The line has an LF at its end alone.

@@ -7,9 +7,9 @@ ghost use Rattle.request_rows.specs.Requests.{IsScriptFault as AreRowsWithout, s
 ghost use Rattle.season_file.specs.Bundle.{parts_of, season_text};
 ghost use Rattle.season_file.specs.Season.{AreAligned, BundleGives, IsSeasonFault, IsSectionFault, IsText, IsUnread, SectionsGive, choice_error, matrix_error, register_error, rows_of_requests, script_error};
 
-use crate::cutting::{Pieces, after_line, cut};
 use crate::fault::SeasonFault;
 use crate::head::{Head, read_head};
+use crate::splitting::{Pieces, after_line, split_at_titles};
 use choice_lists::{ChoiceFault, Choices};
 use office_base::limits::MOST_BUNDLE_BYTES;
 use office_base::{ReadFault, Source, Text, read_whole};
@@ -30,7 +30,7 @@ pub struct Content {
 
 /// Holds what a bundle gives: what its sections give, its requests, and how many bytes come before their section.
 #[derive(Drop)]
-pub(crate) struct Given {
+pub(crate) struct ReadBundle {
     pub(crate) content: Content,
     pub(crate) script: Script,
     pub(crate) end: usize,
@@ -125,7 +125,7 @@ fn read_requests(alloc: Global, section: &[u8]) -> Result<Script, ScriptFault>
 }
 
 /// What a bundle of UTF-8 gives, or its first fault.
-fn read_bundle(alloc: Global, bytes: &[u8], requests: bool) -> Result<Given, SeasonFault>
+fn read_bundle(alloc: Global, bytes: &[u8], requests: bool) -> Result<ReadBundle, SeasonFault>
     requires { IsText bytes.now }
     ensures value { IfOk result (λ given.
         BundleGives requests bytes.now given.content given.script) }
@@ -133,7 +133,7 @@ fn read_bundle(alloc: Global, bytes: &[u8], requests: bool) -> Result<Given, Sea
     ensures end { IfOk result (λ given. take given.end bytes.now ≡ season_text requests bytes.now) }
     ensures fault { IfErr result (λ fault. IsSeasonFault requests bytes.now fault) }
 {
-    let cut = match cut(bytes, requests) {
+    let cut = match split_at_titles(bytes, requests) {
         Ok(cut) => cut,
         Err(fault) => return Err(fault),
     };
@@ -147,7 +147,7 @@ fn read_bundle(alloc: Global, bytes: &[u8], requests: bool) -> Result<Given, Sea
         });
     }
     match read_requests(alloc, cut.requests) {
-        Ok(script) => Ok(Given {
+        Ok(script) => Ok(ReadBundle {
             content,
             script,
             end: bytes.len().saturating_sub(cut.requests.len()),
@@ -161,7 +161,7 @@ pub(crate) fn read_content(
     alloc: Global,
     bytes: &[u8],
     requests: bool,
-) -> Result<Given, SeasonFault>
+) -> Result<ReadBundle, SeasonFault>
     ensures value { IfOk result (λ given.
         BundleGives requests bytes.now given.content given.script) }
     ensures aligned { IfOk result (λ given. AreAligned given.content) }

@@ -9,16 +9,16 @@
 #![tactic(auto)]
 
 mod content;
-pub mod cutting;
 pub mod fault;
 mod head;
 pub mod laws;
 pub mod script;
 pub mod season;
+pub mod splitting;
 
 pub use content::Content;
-pub use cutting::{Pieces, cut_with_requests};
 pub use fault::SeasonFault;
 pub use head::Head;
 pub use script::{Script, read_script};
 pub use season::Season;
+pub use splitting::{Pieces, split_with_requests};

@@ -6,7 +6,7 @@ ghost use Rattle.choice_lists.specs.Choices.{AreChoices};
 ghost use Rattle.choice_lists.specs.OneProof.{AreChoices-prop};
 ghost use Rattle.season_file.specs.Kept.{IsVersion-prop};
 
-use crate::content::{Content, Given, read_bytes, read_content};
+use crate::content::{Content, ReadBundle, read_bytes, read_content};
 use crate::fault::SeasonFault;
 use choice_lists::Choices;
 use office_base::{Source, Text, Token};
@@ -48,7 +48,7 @@ impl Season {
         ensures value { IfOk result (λ season. IsSeason bytes.now season) }
         ensures fault { IfErr result (λ fault. IsSeasonFault false bytes.now fault) }
     {
-        let Given { content, .. } = read_content(alloc, bytes, false)?;
+        let ReadBundle { content, .. } = read_content(alloc, bytes, false)?;
         let mut text = Text::new(alloc);
         text.extend_from_slice(bytes)?;
         Ok(Season::with_text(content, text))
@@ -90,7 +90,7 @@ impl Season {
         ensures fault { IfErr result (λ fault. IsSeasonFault requests text fault) }
     {
         let mut text = text;
-        let Given {
+        let ReadBundle {
             content,
             script,
             end,

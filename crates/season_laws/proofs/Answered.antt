@@ -17,7 +17,7 @@ use Rattle.rounds.specs.declared.round.Round.{Round}
 use Rattle.office_moves.specs.Facts.{IsSound, SeasonFacts, find_programme}
 use Rattle.office_moves.specs.State.{State, round_at, view_of, with_finals, with_raise, with_round, with_row}
 use Rattle.office_moves.specs.Raised.{matrix_of_round}
-use Rattle.office_moves.specs.Decided.{answer_looks, decided_by, raise_looks}
+use Rattle.office_moves.specs.Decided.{answer_facts, decided_by, raise_facts}
 use Rattle.office_moves.specs.Moves.{Does, IsNextRound, final_rows, noted, programme_in, raised_reply, receipt}
 use Rattle.office_moves.specs.declared.decide.Decision.{Decision}
 use Rattle.office_moves.specs.declared.decide.Decision.TheVariants.{Refuse, Tell}
@@ -27,8 +27,8 @@ use Rattle.office_moves.specs.declared.moves.Reply.{Reply}
 use Rattle.office_moves.specs.declared.moves.Reply.TheVariants.{CutoffsAre, Final, ListIs, Published, Refused, RegisterIs}
 use Rattle.office_moves.specs.declared.refusal.Refusal.{Refusal}
 use Rattle.office_moves.proofs.Decisions.{IsThere, answer_keeps, cut_keeps, programme_keeps, question_there, raise_keeps}
-use Rattle.histories.specs.Laws.{ListsHoldChoices}
-use Rattle.histories.specs.Orderly.{IsOrderly}
+use Rattle.history_laws.specs.Laws.{ListsHoldChoices}
+use Rattle.history_laws.specs.Orderly.{IsOrderly}
 use Rattle.season_laws.specs.NextRounds.{EveryRequestIsAnswered}
 
 -- what a decision does is there
@@ -73,7 +73,7 @@ module _ (facts : SeasonFacts) (state : State) (sound : IsSound facts) (orderly 
   done : (by : By) (ask : Ask) → IsDone facts state (decided_by facts state by ask)
   done by (Answer cand window turn choice) =
       let row : AnswerRow = record { window = window; cand = cand; turn = turn; choice = choice } in
-      answer_keeps (IsDone facts state) refused (answer_looks facts (view_of state cand.0) row) by row (noted row, state, (refl, refl)) (noted row, with_row state row, (refl, refl))
+      answer_keeps (IsDone facts state) refused (answer_facts facts (view_of state cand.0) row) by row (noted row, state, (refl, refl)) (noted row, with_row state row, (refl, refl))
   done by (Cut window) =
       cut_keeps (IsDone facts state) refused by state.now facts.rounds window (receipt facts state window, state, (refl, refl))
       (Final (length (final_rows facts state)), with_finals state (final_rows facts state), (refl, refl))
@@ -81,7 +81,7 @@ module _ (facts : SeasonFacts) (state : State) (sound : IsSound facts) (orderly 
   done by (Raise window code step seats) =
       programme_keeps (IsDone facts state) refused (find_programme facts code) _
       (λ prog is. let row : RaiseRow = record { window = window; prog = prog; step = step; seats = seats } in
-      raise_keeps (IsDone facts state) refused (raise_looks facts state row) by row (raised_reply row, state, (refl, refl)) (raised_reply row, with_raise state row, (refl, refl)))
+      raise_keeps (IsDone facts state) refused (raise_facts facts state row) by row (raised_reply row, state, (refl, refl)) (raised_reply row, with_raise state row, (refl, refl)))
   done by ask = question_there (IsDone facts state) refused facts state by ask refl told
 
 pub every_request : (facts : SeasonFacts) → ((state : State) → IsSound facts → IsOrderly facts state → (round : Round) × IsNextRound facts state round) → ListsHoldChoices → CutoffsExist

@@ -26,11 +26,11 @@ use Rattle.office_moves.specs.Raised.{matrix_of_round, raised, raised_before}
 use Rattle.office_moves.specs.declared.moves.Act.{Act}
 use Rattle.office_moves.specs.declared.moves.Entry.{Entry}
 use Rattle.office_moves.proofs.Grows.{none_raised}
-use Rattle.histories.specs.Course.{seek_then, seeks_then}
-use Rattle.histories.specs.Orderly.{IsOrderly}
-use Rattle.histories.proofs.Changes.{Answered, Finishes, Follows, Publishes, Raised, along, changes}
-use Rattle.histories.proofs.Rows.{before_more, before_same, lifted_when}
-use Rattle.histories.proofs.Accepted.{is_open}
+use Rattle.history_laws.specs.Course.{seek_then, seeks_then}
+use Rattle.history_laws.specs.Orderly.{IsOrderly}
+use Rattle.history_laws.proofs.Changes.{Answered, Finishes, Follows, Publishes, Raised, along, changes}
+use Rattle.history_laws.proofs.Rows.{before_more, before_same, lifted_when}
+use Rattle.history_laws.proofs.Accepted.{is_open}
 use Rattle.season_laws.specs.Laws.{AreSameByWindow, CameToTheSame, OrderWithinWindowsIsFree, answers_among, cuts_among, raises_among, raises_in}
 
 -- ---- the raises of a window

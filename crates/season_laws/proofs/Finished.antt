@@ -13,8 +13,8 @@ use Rattle.office_moves.specs.declared.moves.Act.TheVariants.{Cut}
 use Rattle.office_moves.specs.declared.moves.Entry.{Entry}
 use Rattle.office_moves.specs.declared.moves.Reply.{Reply}
 use Rattle.office_moves.proofs.Cuts.{ends}
-use Rattle.histories.specs.Laws.{HistoryGrows}
-use Rattle.histories.specs.Orderly.{IsOrderly}
+use Rattle.history_laws.specs.Laws.{HistoryGrows}
+use Rattle.history_laws.specs.Orderly.{IsOrderly}
 use Rattle.season_laws.specs.Laws.{AreCutsFrom, GoesToItsEnd, SeasonsCanBeFinished}
 use Rattle.season_laws.specs.NextRounds.{EveryRequestIsAnswered}
 

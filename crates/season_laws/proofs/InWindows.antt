@@ -21,8 +21,8 @@ use Rattle.office_moves.specs.declared.moves.Act.{Act}
 use Rattle.office_moves.specs.declared.moves.Act.TheVariants.{Answer, Raise, Cut}
 use Rattle.office_moves.specs.declared.moves.Entry.{Entry}
 use Rattle.office_moves.specs.declared.moves.Reply.{Reply}
-use Rattle.histories.proofs.Changes.{Answered, Change, Finishes, Publishes, Raised, changes}
-use Rattle.histories.proofs.Accepted.{is_open}
+use Rattle.history_laws.proofs.Changes.{Answered, Change, Finishes, Publishes, Raised, changes}
+use Rattle.history_laws.proofs.Accepted.{is_open}
 use Rattle.replays.specs.Replay.{CutPasses, takes, takes_answer, takes_raise, with_act}
 
 -- ---- rows that are accepted one after another

@@ -12,13 +12,13 @@ use Rattle.list_cutoffs.specs.Laws.{OneListOfCutoffs}
 use Rattle.list_cutoffs.specs.declared.cutoffs.StepCutoff.{StepCutoff}
 use Rattle.office_moves.specs.Facts.{SeasonFacts, find_programme}
 use Rattle.office_moves.specs.Judge.{judge_list, judge_round}
-use Rattle.office_moves.specs.Decided.{decide_raise, is_known, raise_looks}
+use Rattle.office_moves.specs.Decided.{decide_raise, is_known, raise_facts}
 use Rattle.office_moves.specs.Moves.{Does, in_windows, programme_in}
 use Rattle.office_moves.specs.declared.decide.Decision.{Decision}
 use Rattle.office_moves.specs.declared.decide.Question.TheVariants.{List as TheList, Choices as TheChoices, Cutoffs as TheCutoffs, Register as TheRegister, Answers as TheAnswers}
 use Rattle.office_moves.specs.declared.moves.Reply.TheVariants.{AnswersAre, CutoffsAre, ListIs}
 use Rattle.office_moves.proofs.Decisions.{list_keeps, own_keeps, programme_keeps, raise_keeps, round_keeps}
-use Rattle.histories.specs.Laws.{ListsHoldChoices}
+use Rattle.history_laws.specs.Laws.{ListsHoldChoices}
 use Rattle.season_laws.specs.Looks.{AnswersLookAtOwnRows, CutoffsLookAtTheRound, EntriesLookAtTheSeason, ListsLookAtTheRound, RaisesLookAtRaises, RoundsLookAtNumbers, StateLooksAtNumbers}
 
 -- ---- the state, and what was published
@@ -88,6 +88,6 @@ raise_looks_alone facts a b after then by window code step seats reply other now
     let alike : Decision → Type 0 = λ d. Does facts a d reply after → Does facts b d other then → reply ≡ other in
     programme_keeps alike (λ r x y. x.0 ∙ sym y.0) (find_programme facts code) _ (λ prog is.
     let row : RaiseRow = record { window = window; prog = prog; step = step; seats = seats } in
-    raise_keeps alike (λ r x y. x.0 ∙ sym y.0) (raise_looks facts (record { now = b.now; rounds = []; finals = None; answers = []; raises = b.raises }) row) by row
+    raise_keeps alike (λ r x y. x.0 ∙ sym y.0) (raise_facts facts (record { now = b.now; rounds = []; finals = None; answers = []; raises = b.raises }) row) by row
     (λ x y. x.0 ∙ sym y.0) (λ x y. x.0 ∙ sym y.0))
     (subst (λ d. Does facts a d reply after) one first) second

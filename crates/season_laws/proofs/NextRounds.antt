@@ -12,7 +12,7 @@ use Rattle.rounds.proofs.Entrants.{market}
 use Rattle.office_moves.specs.Facts.{SeasonFacts, lists_in_order}
 use Rattle.office_moves.specs.Raised.{matrix_at}
 use Rattle.office_moves.specs.Moves.{next_seeks}
-use Rattle.histories.proofs.Entering.{entrants}
+use Rattle.history_laws.proofs.Entering.{entrants}
 use Rattle.season_laws.specs.NextRounds.{NextRoundExists}
 use Rattle.allocations.proofs.Best.{best_there}
 use Rattle.season_laws.proofs.Shown.{shown}

@@ -29,9 +29,9 @@ use Rattle.office_moves.specs.Moves.{IsNextRound, next_seek, next_seeks}
 use Rattle.office_moves.specs.Promise.{standing_then}
 use Rattle.office_moves.specs.Raised.{matrix_at, raised}
 use Rattle.office_moves.specs.State.{State, View, last_seat, left_by, rows_of, seat_in, seat_of, standing_at, view_of}
-use Rattle.histories.specs.Orderly.{IsOrderly}
-use Rattle.histories.proofs.Entering.{entrants, list_there, lists_full}
-use Rattle.histories.proofs.Fits.{is_seated, map_at, still_waits}
+use Rattle.history_laws.specs.Orderly.{IsOrderly}
+use Rattle.history_laws.proofs.Entering.{entrants, list_there, lists_full}
+use Rattle.history_laws.proofs.Fits.{is_seated, map_at, still_waits}
 use Rattle.season_laws.specs.Otherwise.{AnswersOtherwise, FloatIsNoWorse, IsRaisedAlone, RaisesHurtNobody}
 
 -- ---- one candidate

@@ -57,9 +57,9 @@ use Rattle.office_moves.specs.State.{State, seat_in, seat_of}
 use Rattle.office_moves.specs.Promise.{IsJust, kept_to_the_end, standing_then}
 use Rattle.office_moves.specs.Raised.{matrix_of_round}
 use Rattle.office_moves.specs.Moves.{allot_rows, row_before, rows_along}
-use Rattle.histories.specs.Orderly.{IsOrderly}
-use Rattle.histories.proofs.Entering.{entrants, lists_full}
-use Rattle.histories.proofs.Fits.{full_seeks, placed, seat_there}
+use Rattle.history_laws.specs.Orderly.{IsOrderly}
+use Rattle.history_laws.proofs.Entering.{entrants, lists_full}
+use Rattle.history_laws.proofs.Fits.{full_seeks, placed, seat_there}
 use Rattle.round_options.specs.Options.{holds}
 use Rattle.season_laws.specs.ReadBack.{PublishedIsRead}
 

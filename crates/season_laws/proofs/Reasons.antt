@@ -61,9 +61,9 @@ use Rattle.office_moves.specs.declared.decide.Question.TheVariants.{Why as TheRe
 use Rattle.office_moves.specs.declared.moves.Reply.TheVariants.{CutoffsAre, Final, Published, RegisterIs, WhyIs}
 use Rattle.office_moves.specs.Why.{is_sought_by, reason_in, why_answer, why_beside, why_refused}
 use Rattle.office_moves.proofs.Narrows.{left_order, left_there, there_left}
-use Rattle.histories.specs.Orderly.{IsOrderly}
-use Rattle.histories.proofs.Entering.{entrants, list_there, lists_full, own_there}
-use Rattle.histories.proofs.Fits.{full_seeks}
+use Rattle.history_laws.specs.Orderly.{IsOrderly}
+use Rattle.history_laws.proofs.Entering.{entrants, list_there, lists_full, own_there}
+use Rattle.history_laws.proofs.Fits.{full_seeks}
 use Rattle.season_laws.specs.Reasons.{IsJustReason, IsShownUnder, OfficeReasonsAreJust, ToldReasonsAreJust}
 
 -- the laws of the choice of a programme on which this rests

@@ -18,7 +18,7 @@ use Rattle.office_moves.specs.declared.moves.Entry.{Entry}
 use Rattle.office_moves.specs.declared.moves.Reply.{Reply}
 use Rattle.office_moves.specs.declared.moves.Reply.TheVariants.{Final, Published, RoundIs}
 use Rattle.office_moves.proofs.Grows.{Accepted, Answers, Finishes, InOrder, Publishes, Raises, finals_stay, reaches_grows, reaches_order, round_stays, was_accepted}
-use Rattle.histories.specs.Laws.{WindowsPass}
+use Rattle.history_laws.specs.Laws.{WindowsPass}
 use Rattle.published_texts.specs.Texts.{final_text, round_text}
 use Rattle.reply_texts.specs.Replies.{final_line, published_line, shown_text, text_of_round}
 use Rattle.shown_replies.specs.Shown.{reply_bytes, rows_shown}

@@ -12,7 +12,7 @@ use Rattle.office_moves.specs.Moves.{IsMove}
 use Rattle.office_moves.specs.History.{Reaches}
 use Rattle.office_moves.specs.declared.moves.Entry.{Entry}
 use Rattle.office_moves.specs.declared.moves.Reply.{Reply}
-use Rattle.histories.specs.Orderly.{IsOrderly}
+use Rattle.history_laws.specs.Orderly.{IsOrderly}
 
 -- Two states that agree in how many cuts were made and in the accepted raises give a raise equal replies.
 abbrev pub RaisesLookAtRaises : SeasonFacts → Type 0

@@ -4,7 +4,7 @@ use Rattle.office_moves.specs.Facts.{IsSound, SeasonFacts}
 use Rattle.office_moves.specs.State.{State}
 use Rattle.office_moves.specs.Moves.{IsMove, IsNextRound}
 use Rattle.office_moves.specs.declared.moves.Reply.{Reply}
-use Rattle.histories.specs.Orderly.{IsOrderly}
+use Rattle.history_laws.specs.Orderly.{IsOrderly}
 use Rattle.rounds.specs.declared.round.Round.{Round}
 
 -- A state in which all is in order has a next round.

@@ -3,7 +3,7 @@ use Rattle.std.specs.Prelude.{◌≡◌, ◌≢◌, ◌<◌, ◌≤◌, ℕ, Som
 use Rattle.office_base.specs.declared.person.Person.{Person}
 use Rattle.allocations.specs.Market.{rank_of}
 use Rattle.choice_lists.specs.Choices.{list_of}
-use Rattle.histories.specs.Orderly.{IsOrderly}
+use Rattle.history_laws.specs.Orderly.{IsOrderly}
 use Rattle.office_moves.specs.Facts.{IsSound, SeasonFacts}
 use Rattle.office_moves.specs.Moves.{IsNextRound, next_seek}
 use Rattle.office_moves.specs.Promise.{standing_then}

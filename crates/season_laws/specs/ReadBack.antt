@@ -14,7 +14,7 @@ use Rattle.rounds.specs.declared.round.Round.{Round}
 use Rattle.office_moves.specs.Facts.{IsSound, SeasonFacts}
 use Rattle.office_moves.specs.State.{State}
 use Rattle.office_moves.specs.Moves.{allot_rows}
-use Rattle.histories.specs.Orderly.{IsOrderly}
+use Rattle.history_laws.specs.Orderly.{IsOrderly}
 
 -- The texts of what a state shows are such as their readers take, and say what the state does.
 pub record IsReadBack (facts : SeasonFacts) (state : State) : Type 0 where

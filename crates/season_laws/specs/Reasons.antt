@@ -26,7 +26,7 @@ use Rattle.office_moves.specs.Raised.{matrix_of_round}
 use Rattle.office_moves.specs.Why.{why_answer}
 use Rattle.office_moves.specs.Moves.{IsMove}
 use Rattle.office_moves.specs.declared.moves.Reply.TheVariants.{WhyIs}
-use Rattle.histories.specs.Orderly.{IsOrderly}
+use Rattle.history_laws.specs.Orderly.{IsOrderly}
 
 -- the list of this step, as the programme shows it, has the person
 abbrev pub IsShownUnder : Programme → StepKind → Person → Type 0

@@ -23,7 +23,7 @@ pub fn lists_look_at_the_round()
 pub fn cutoffs_look_at_the_round()
     ensures { (facts : SeasonFacts) → CutoffsLookAtTheRound facts }
 {
-    histories::laws::lists_hold_choices();
+    history_laws::laws::lists_hold_choices();
     list_cutoffs::laws::one_list();
 }
 
@@ -31,7 +31,7 @@ pub fn cutoffs_look_at_the_round()
 pub fn published_replies_stay()
     ensures { (facts : SeasonFacts) → PublishedRepliesStay facts }
 {
-    histories::laws::cutoffs_are_one();
+    history_laws::laws::cutoffs_are_one();
 }
 
 /// The reply to who asks for an entry of the register, or for a choice list, looks at the season alone.
@@ -72,7 +72,7 @@ pub fn told_reasons_are_just()
     office_reasons_are_just();
 }
 
-/// A state in which all is in order has a next round, and as `histories` says one alone.
+/// A state in which all is in order has a next round, and as `history_laws` says one alone.
 pub fn next_round_exists()
     ensures { (facts : SeasonFacts) → NextRoundExists facts }
 {
@@ -86,7 +86,7 @@ pub fn every_request_is_answered()
     ensures { (facts : SeasonFacts) → EveryRequestIsAnswered facts }
 {
     next_round_exists();
-    histories::laws::lists_hold_choices();
+    history_laws::laws::lists_hold_choices();
     list_cutoffs::laws::cutoffs_exist();
 }
 
@@ -94,8 +94,8 @@ pub fn every_request_is_answered()
 pub fn seasons_can_be_finished()
     ensures { (facts : SeasonFacts) → SeasonsCanBeFinished facts }
 {
-    histories::laws::orderly();
-    histories::laws::history_grows();
+    history_laws::laws::orderly();
+    history_laws::laws::history_grows();
     every_request_is_answered();
 }
 
@@ -103,8 +103,8 @@ pub fn seasons_can_be_finished()
 pub fn order_within_windows_is_free()
     ensures { (facts : SeasonFacts) → OrderWithinWindowsIsFree facts }
 {
-    histories::laws::orderly();
-    histories::laws::one_round();
+    history_laws::laws::orderly();
+    history_laws::laws::one_round();
 }
 
 /// And two answers of different candidates that follow each other can be exchanged.
@@ -172,7 +172,7 @@ pub fn round_texts_stay()
 pub fn final_texts_stay()
     ensures { (facts : SeasonFacts) → FinalTextsStay facts }
 {
-    histories::laws::windows_pass();
+    history_laws::laws::windows_pass();
 }
 
 /// If something was accepted and is asked for again, the first text comes again, word for word; for a cut with all rows.

@@ -43,6 +43,6 @@ same_fields (field ∷ fields) [] = false
 same_fields (field ∷ fields) (name ∷ names) = bytes_eq field name && same_fields fields names
 
 -- what a reader of rows has: the row it is at, and those left
-pub record Told : Type 0 where
+pub record RowsAhead : Type 0 where
   pub row : Row
   pub left : List Row

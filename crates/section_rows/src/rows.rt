@@ -81,10 +81,10 @@ pub struct Rows<'a> {
 impl<'a> Model for Rows<'a> {
     ghost use Rattle.std.specs.Prelude.{◌≤◌, [], length, take, if◌then◌else◌};
     ghost use Rattle.csv.specs.Records.{fields_of};
-    ghost use Rattle.section_rows.specs.Rows.{Told, rows_among};
+    ghost use Rattle.section_rows.specs.Rows.{RowsAhead, rows_among};
     ghost use Rattle.section_rows.specs.Reading.{IsReading, records_left};
 
-    ghost Value = { Told };
+    ghost Value = { RowsAhead };
 
     ghost view = { λ a. record { row = take a.fields (fields_of a.raw); left = if a.ended then [] else rows_among (records_left a.reader) } };
 

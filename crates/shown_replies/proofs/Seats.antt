@@ -25,10 +25,10 @@ use Rattle.office_moves.specs.Raised.{matrix_of_round}
 use Rattle.office_moves.specs.State.{State, round_at, seat_in}
 use Rattle.published_texts.specs.Texts.{IsSeatOf}
 use Rattle.reply_texts.specs.Replies.{HasTraitSlots, IsRoundOf}
-use Rattle.histories.specs.Course.{seeks_then}
-use Rattle.histories.specs.Orderly.{IsOrderly}
-use Rattle.histories.proofs.Entering.{entrants}
-use Rattle.histories.proofs.Fits.{is_seated}
+use Rattle.history_laws.specs.Course.{seeks_then}
+use Rattle.history_laws.specs.Orderly.{IsOrderly}
+use Rattle.history_laws.proofs.Entering.{entrants}
+use Rattle.history_laws.proofs.Fits.{is_seated}
 use Rattle.shown_replies.specs.Shown.{rows_shown}
 
 -- the laws on which it rests

@@ -28,7 +28,7 @@ use Rattle.office_moves.specs.declared.moves.Reply.{Reply}
 use Rattle.office_moves.specs.declared.moves.Reply.TheVariants.{Published, Final, RegisterIs}
 use Rattle.office_moves.proofs.Decisions.{IsThere, NamesThere, decided_there}
 use Rattle.published_texts.specs.Texts.{IsAnswerOf, IsSeatOf}
-use Rattle.histories.specs.Orderly.{IsOrderly}
+use Rattle.history_laws.specs.Orderly.{IsOrderly}
 use Rattle.reply_texts.specs.Replies.{HasTraitSlots, IsReplyOf}
 use Rattle.shown_replies.specs.Shown.{CameOf, CanBeShown, round_shown, rows_shown}
 use Rattle.shown_replies.proofs.Seats.{ChooseWell, finals_show, is_round_shown, round_at_shows, seat_shows}

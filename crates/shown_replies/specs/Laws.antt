@@ -2,7 +2,7 @@
 use Rattle.office_moves.specs.Facts.{IsSound, SeasonFacts}
 use Rattle.office_moves.specs.State.{State}
 use Rattle.office_moves.specs.declared.moves.Reply.{Reply}
-use Rattle.histories.specs.Orderly.{IsOrderly}
+use Rattle.history_laws.specs.Orderly.{IsOrderly}
 use Rattle.shown_replies.specs.Shown.{CameOf, CanBeShown}
 
 -- In a state in which all is in order the reply that led to it can be shown.

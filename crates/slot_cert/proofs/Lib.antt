@@ -2,7 +2,7 @@ mod First
 mod Least
 mod OneCertificate
 mod Pairs
-mod Steps
+mod SearchBounds
 mod Traits
-mod Walks
-mod Way
+mod ListParts
+mod PairsSoFar

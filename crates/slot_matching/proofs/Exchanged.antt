@@ -13,7 +13,7 @@ use Rattle.placements.proofs.Hall.{one_if, one_if_true, positions_below_few}
 use Rattle.placements.proofs.Replace.{asking_leaves}
 use Rattle.placements.proofs.Without.{leaves_at, all_without, pairwise_without, distinct_without}
 use Rattle.slot_matching.specs.Kept.{Kept, without_member, MayJoin, IsCounted}
-use Rattle.slot_matching.proofs.Steps.{HasSpare, joins_where}
+use Rattle.slot_matching.proofs.OneMemberMore.{HasSpare, joins_where}
 
 -- one is given back to each set that holds the traits
 abbrev pub IsGiven : List ℕ → TraitSet → List ℕ → Type 0

@@ -12,7 +12,7 @@ use Rattle.placements.proofs.Outside.{within_itself}
 use Rattle.placements.proofs.Replace.{within_again, full_both}
 use Rattle.slot_matching.specs.Full.{AreClosed, HasSpareBelow, IsLeastFull, IsLeastOf, met}
 use Rattle.slot_matching.specs.Kept.{IsSpare}
-use Rattle.slot_matching.proofs.Steps.{none_short}
+use Rattle.slot_matching.proofs.OneMemberMore.{none_short}
 
 -- what a set has in common with another is within both
 pub both_left : (a b : TraitSet) → is_within (both a b) a ≡ true

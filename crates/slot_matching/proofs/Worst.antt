@@ -18,7 +18,7 @@ use Rattle.slot_matching.specs.Full.{IsLeastFull, IsLeastOf}
 use Rattle.slot_matching.specs.Kept.{Kept, MayJoin, IsCounted}
 use Rattle.slot_matching.specs.Members.{IsWorstWithin, id_of}
 use Rattle.slot_matching.specs.Replaceable.{IsReplaceable}
-use Rattle.slot_matching.proofs.Steps.{can_join, joins_where, none_short}
+use Rattle.slot_matching.proofs.OneMemberMore.{can_join, joins_where, none_short}
 
 -- what the lemmas on who can be replaced ask for
 may_replace : (kept : Kept) (person : Person) (spare : List ℕ) (size : ℕ) → IsCounted kept spare size → MayJoin kept person

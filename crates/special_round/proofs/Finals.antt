@@ -20,10 +20,10 @@ use Rattle.office_moves.specs.Moves.{row_before, rows_along}
 use Rattle.office_moves.specs.Promise.{kept_to_the_end, standing_then}
 use Rattle.office_moves.specs.Raised.{matrix_at, matrix_of_round}
 use Rattle.office_moves.specs.State.{State, seat_in}
-use Rattle.histories.specs.Course.{seeks_then}
-use Rattle.histories.specs.Orderly.{IsOrderly}
-use Rattle.histories.proofs.Fits.{seat_there}
-use Rattle.histories.proofs.Entering.{entrants}
+use Rattle.history_laws.specs.Course.{seeks_then}
+use Rattle.history_laws.specs.Orderly.{IsOrderly}
+use Rattle.history_laws.proofs.Fits.{seat_there}
+use Rattle.history_laws.proofs.Entering.{entrants}
 use Rattle.office_moves.proofs.Sums.{rows_less}
 use Rattle.special_round.specs.Laws.{FinalsFit, FitInto, RoundsFit}
 use Rattle.special_round.specs.Remaining.{may_be_taken}

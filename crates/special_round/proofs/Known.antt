@@ -28,8 +28,8 @@ use Rattle.office_moves.specs.Moves.{row_before, rows_along}
 use Rattle.office_moves.specs.Promise.{kept_to_the_end, standing_then}
 use Rattle.office_moves.specs.Raised.{matrix_at}
 use Rattle.office_moves.specs.State.{State, seat_in}
-use Rattle.histories.specs.Orderly.{IsOrderly}
-use Rattle.histories.proofs.Fits.{SeatOf, seat_is}
+use Rattle.history_laws.specs.Orderly.{IsOrderly}
+use Rattle.history_laws.proofs.Fits.{SeatOf, seat_is}
 use Rattle.special_round.specs.Laws.{FinalsAreKnown}
 use Rattle.special_round.specs.Remaining.{AreFinals}
 use Rattle.special_round.specs.Rows.{before_those, finals_of, is_row_of}

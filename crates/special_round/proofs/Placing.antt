@@ -7,7 +7,7 @@ use Rattle.office_moves.specs.Facts.{IsSound, SeasonFacts}
 use Rattle.office_moves.specs.Raised.{matrix_at}
 use Rattle.season_facts.specs.Season.{facts_of}
 use Rattle.office_moves.specs.State.{State}
-use Rattle.histories.specs.Orderly.{IsOrderly}
+use Rattle.history_laws.specs.Orderly.{IsOrderly}
 use Rattle.special_round.specs.Laws.{FinalsAreKnown, FinalsFit, FitInto}
 use Rattle.special_round.specs.Remaining.{AreFinals}
 use Rattle.special_round.specs.Rows.{rows_of_step}

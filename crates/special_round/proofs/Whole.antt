@@ -24,7 +24,7 @@ use Rattle.office_moves.specs.Facts.{IsSound, SeasonFacts, register_of}
 use Rattle.office_moves.specs.Raised.{total_seats}
 use Rattle.season_facts.specs.Season.{facts_of}
 use Rattle.office_moves.specs.State.{seat_of}
-use Rattle.histories.proofs.Entering.{entrants}
+use Rattle.history_laws.proofs.Entering.{entrants}
 use Rattle.special_round.specs.Laws.{FitInto, TogetherWithin}
 use Rattle.special_round.specs.Rows.{rows_of_step}
 use Rattle.special_round.specs.Season.{IsLeftSeason, has_final}

@@ -15,7 +15,7 @@ use Rattle.rounds.specs.declared.round.Round.{Round}
 use Rattle.office_moves.specs.Facts.{IsSound, SeasonFacts}
 use Rattle.office_moves.specs.Raised.{matrix_at, seats_in_all}
 use Rattle.office_moves.specs.State.{State}
-use Rattle.histories.specs.Orderly.{IsOrderly}
+use Rattle.history_laws.specs.Orderly.{IsOrderly}
 use Rattle.special_round.specs.Remaining.{AreFinals, IsRemaining, may_be_taken}
 use Rattle.season_file.specs.declared.season.Season.{Season}
 use Rattle.special_round.specs.Season.{IsRemainingSeason, IsSpecialFault, MayBeHeld}

@@ -1,7 +1,7 @@
 // The special round of an office.
 ghost use Rattle.std.specs.Prelude.{◌≤◌, ◌+◌, IfOk, IfErr};
 ghost use Rattle.allocations.specs.Course.{places};
-ghost use Rattle.histories.specs.Orderly.{IsOrderly};
+ghost use Rattle.history_laws.specs.Orderly.{IsOrderly};
 ghost use Rattle.office_moves.specs.Facts.{IsSound};
 ghost use Rattle.rounds.specs.Rule.{seekers_of};
 ghost use Rattle.round_laws.specs.Laws.{lists_in};
@@ -12,7 +12,7 @@ use crate::fault::SpecialFault;
 use crate::laws::{finals_are_known, finals_fit};
 use crate::round_over::{Special, special_over};
 use crate::season::left_season;
-use histories::laws::orderly;
+use history_laws::laws::orderly;
 use keeper_mem::Keeper;
 use office_base::Steps;
 use round_cut::Office;

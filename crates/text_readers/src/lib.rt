@@ -12,5 +12,5 @@ pub mod reading;
 
 pub use fault::TextFault;
 pub use known::{codes_are_spelled, small_people};
-pub use parts::{after, begins_number, begins_whole, cut, left_after, read_programme};
-pub use reading::{Lines, read_lines};
+pub use parts::{after, begins_number, begins_whole, left_after, read_programme, split_at_byte};
+pub use reading::{LineReader, read_lines};

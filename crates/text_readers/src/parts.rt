@@ -11,7 +11,7 @@ use office_text::read_number;
 use seat_matrix::Matrix;
 
 /// Returns what comes before the first of these bytes, and what follows it. `None` if there is none.
-pub fn cut(bytes: &[u8], byte: u8) -> Option<(&[u8], &[u8])>
+pub fn split_at_byte(bytes: &[u8], byte: u8) -> Option<(&[u8], &[u8])>
     ensures some { IfSome result (λ parts. bytes.now ≡ parts.0.now ++ byte ∷ parts.1.now) }
     ensures first { IfSome result (λ parts. HasNo byte parts.0.now) }
     ensures shorter { IfSome result (λ parts. length parts.1.now < length bytes.now) }

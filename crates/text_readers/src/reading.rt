@@ -3,11 +3,11 @@ ghost use Rattle.std.specs.Prelude.{◌≡◌, ◌<◌, ◌≤◌, ◌-◌, ◌^
 ghost use Rattle.text_readers.specs.Reading.{Begins, EndsWithLines, Grammar, HasNo, IsAnswered, IsTextFault, IsWhole};
 
 use crate::fault::TextFault;
-use crate::parts::cut;
+use crate::parts::split_at_byte;
 use office_base::OutOfMemory;
 
 /// Holds what was read of a text, one line after another.
-pub trait Lines {
+pub trait LineReader {
     /// What a text says.
     ghost Value: { Type 0 };
 
@@ -49,7 +49,7 @@ pub trait Lines {
 
 /// Reads a text into a reader at its beginning, or returns the line of its fault. After a fault the reader is of no
 /// use any more.
-pub fn read_lines<L: Lines>(lines: &mut L, text: &[u8]) -> Result<(), TextFault>
+pub fn read_lines<L: LineReader>(lines: &mut L, text: &[u8]) -> Result<(), TextFault>
     requires keeps { L.keeps lines.old }
     requires some { Begins (L.grammar lines.old) [] }
     requires few { L.left lines.old < 2 ^ 32 - 2 }
@@ -58,7 +58,7 @@ pub fn read_lines<L: Lines>(lines: &mut L, text: &[u8]) -> Result<(), TextFault>
 {
     let mut rest = text;
     let mut number: u32 = 1;
-    while let Some((line, later)) = cut(rest, b'\n') {
+    while let Some((line, later)) = split_at_byte(rest, b'\n') {
         if !lines.take(line)? {
             return Err(TextFault::Line(number));
         }

@@ -15,7 +15,7 @@ use Rattle.season_file.specs.declared.content.Content.{Content}
 use Rattle.season_file.specs.declared.fault.SeasonFault.{SeasonFault}
 use Rattle.units_command.specs.Expansion.{IsExpansion, IsFaultOf, IsUnitFault}
 use Rattle.units_command.specs.Homes.{AreAlike, Homes, home_at, states_of, units_of}
-use Rattle.units_command.specs.Input.{Input, before_bundle, cut_before, expanded, expansion, input_of, with_line, with_row, with_units}
+use Rattle.units_command.specs.Input.{Input, before_bundle, split_head, expanded, expansion, input_of, with_line, with_row, with_units}
 use Rattle.units_command.specs.Mapping.{by_home, is_unit, mapped_field, mapped_fields, mapped_from, mapped_row, mapped_rows, unit_of}
 use Rattle.units_command.specs.Reads.{AllLiveRight, MappedGives, ReadsMapped}
 use Rattle.units_command.specs.declared.fault.UnitFault.{UnitFault}
@@ -92,7 +92,7 @@ line-owns text (Err rest) = tt
 input-owns : (text : List ℕ) → Owns (input_of text)
 input-owns text =
     by (bytes_eq (title text) (codes "office units 1"))
-    (with_line text (cut_before (drop (before_bundle true (after_line text)) (after_line text)) (skip_empty (take (before_bundle true (after_line text)) (after_line text))))) (line-owns text _)
+    (with_line text (split_head (drop (before_bundle true (after_line text)) (after_line text)) (skip_empty (take (before_bundle true (after_line text)) (after_line text))))) (line-owns text _)
   where
     by : (b : Bool) (r : Result Input UnitFault) → Owns r → Owns (cond b r (Err BadFirstLine))
     by true r own = own

@@ -4,8 +4,8 @@ use Rattle.std.specs.Prelude.{◌&&◌, bytes_eq, codes}
 use Rattle.season_file.specs.Bundle.{after_line, fault_line, line_len, section, skip_empty, title}
 use Rattle.section_rows.specs.Steps.{after}
 use Rattle.section_rows.proofs.StepsLemmas.{after_ok}
-use Rattle.season_file.proofs.CuttingLemmas.{drop_one}
-use Rattle.units_command.specs.Input.{Input, before_bundle, behind, closed_by, cut_before, input_of, with_line}
+use Rattle.season_file.proofs.BundleLines.{drop_one}
+use Rattle.units_command.specs.Input.{Input, before_bundle, behind, closed_by, split_head, input_of, with_line}
 use Rattle.units_command.specs.declared.fault.UnitFault.{UnitFault}
 use Rattle.units_command.specs.declared.fault.UnitFault.TheVariants.{BadFirstLine, Section}
 
@@ -80,16 +80,16 @@ skip-le (a ∷ b ∷ bytes) = by (skip-le (b ∷ bytes)) (skip-le bytes) (a == 1
 
 -- An input is cut so, by its pieces.
 pub input-made : (text rest front back skipped : List ℕ) (n : ℕ) (r : Result Input (List ℕ)) → bytes_eq (title text) (codes "office units 1") ≡ true → rest ≡ after_line text → n ≡ before_bundle true rest
-    → front ≡ take n rest → back ≡ drop n rest → skipped ≡ skip_empty front → cut_before back skipped ≡ r → input_of text ≡ with_line text r
+    → front ≡ take n rest → back ≡ drop n rest → skipped ≡ skip_empty front → split_head back skipped ≡ r → input_of text ≡ with_line text r
 input-made text rest front back skipped n r titled e1 e2 e3 e4 e5 cut = ap (λ (b : Bool). cond b (with_line text (parts (after_line text))) (Err BadFirstLine)) titled ∙ ap (λ (q : Result Input (List ℕ)). with_line text q) same
   where
     parts : List ℕ → Result Input (List ℕ)
-    parts l = cut_before (drop (before_bundle true l) l) (skip_empty (take (before_bundle true l) l))
+    parts l = split_head (drop (before_bundle true l) l) (skip_empty (take (before_bundle true l) l))
 
-    at : (m : ℕ) → n ≡ m → cut_before (drop m rest) (skip_empty (take m rest)) ≡ r
+    at : (m : ℕ) → n ≡ m → split_head (drop m rest) (skip_empty (take m rest)) ≡ r
     at m is =
-        ap (λ (k : ℕ). cut_before (drop k rest) (skip_empty (take k rest))) (sym is) ∙ ap (λ (l : List ℕ). cut_before l (skip_empty (take n rest))) (sym e4)
-        ∙ ap (λ (l : List ℕ). cut_before back (skip_empty l)) (sym e3) ∙ ap (λ (l : List ℕ). cut_before back l) (sym e5) ∙ cut
+        ap (λ (k : ℕ). split_head (drop k rest) (skip_empty (take k rest))) (sym is) ∙ ap (λ (l : List ℕ). split_head l (skip_empty (take n rest))) (sym e4)
+        ∙ ap (λ (l : List ℕ). split_head back (skip_empty l)) (sym e3) ∙ ap (λ (l : List ℕ). split_head back l) (sym e5) ∙ cut
 
     same : parts (after_line text) ≡ r
     same = ap parts (sym e1) ∙ at (before_bundle true rest) e2
@@ -105,7 +105,7 @@ closed-same [] [] made input e = absurd cc
 closed-same [] (b ∷ bundle) made input e = cc e
 closed-same (x ∷ rest) bundle made input e = absurd cc
 
-cut-bundle : (bundle text : List ℕ) (input : Input) → cut_before bundle text ≡ Ok input → input.bundle ≡ bundle
+cut-bundle : (bundle text : List ℕ) (input : Input) → split_head bundle text ≡ Ok input → input.bundle ≡ bundle
 cut-bundle bundle text input e =
     let (units, e1, h1) = after_ok (behind bundle (section (codes "[units]") text)) (λ units. after (behind bundle (section (codes "[states]") units.1)) (λ states. closed_by states.1 bundle (record { units = units.0; states = states.0; bundle = bundle }))) input e in
     let (states, e2, h2) = after_ok (behind bundle (section (codes "[states]") units.1)) (λ states. closed_by states.1 bundle (record { units = units.0; states = states.0; bundle = bundle })) input h1 in
@@ -126,7 +126,7 @@ input-short text input e = by (bytes_eq (title text) (codes "office units 1")) e
     bundle : List ℕ
     bundle = drop (before_bundle true rest) rest
 
-    by : (b : Bool) → cond b (with_line text (cut_before bundle (skip_empty (take (before_bundle true rest) rest)))) (Err BadFirstLine) ≡ Ok input → length input.bundle ≤ length text
+    by : (b : Bool) → cond b (with_line text (split_head bundle (skip_empty (take (before_bundle true rest) rest)))) (Err BadFirstLine) ≡ Ok input → length input.bundle ≤ length text
     by true h =
         let is = cut-bundle bundle (skip_empty (take (before_bundle true rest) rest)) input (with-line-ok text _ input h) in
         omega (arith, ap length is, drop-le (before_bundle true rest) rest, after-le text)

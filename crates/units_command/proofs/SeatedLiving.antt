@@ -21,8 +21,8 @@ use Rattle.office_moves.specs.State.{State, opening, seat_in}
 use Rattle.office_moves.specs.declared.moves.Entry.{Entry}
 use Rattle.season_facts.proofs.Sound.{given_sound}
 use Rattle.round_options.specs.Options.{holds}
-use Rattle.histories.specs.Course.{IsCourse}
-use Rattle.histories.proofs.Fits.{seat_is}
+use Rattle.history_laws.specs.Course.{IsCourse}
+use Rattle.history_laws.proofs.Fits.{seat_is}
 use Rattle.units_command.specs.Expansion.{IsExpansion}
 use Rattle.units_command.specs.Homes.{Homes}
 use Rattle.units_command.specs.Mapping.{home_end, other_end}

@@ -42,8 +42,8 @@ closed_by (byte ∷ rest) bundle input = Err ((byte ∷ rest) ++ bundle)
 
 -- the two sections in their order and the bundle, or what there is from the first wrong line on: nothing, if the
 -- bundle is missing
-abbrev pub cut_before : List ℕ → List ℕ → Result Input (List ℕ)
-cut_before bundle text =
+abbrev pub split_head : List ℕ → List ℕ → Result Input (List ℕ)
+split_head bundle text =
     after (behind bundle (section (codes "[units]") text)) (λ units. after (behind bundle (section (codes "[states]") units.1)) (λ states.
     closed_by states.1 bundle (record { units = units.0; states = states.0; bundle = bundle })))
 
@@ -55,7 +55,7 @@ with_line text (Err rest) = Err (Section (fault_line text rest))
 abbrev pub input_of : List ℕ → Result Input UnitFault
 input_of text =
     if bytes_eq (title text) (codes "office units 1")
-    then with_line text (cut_before (drop (before_bundle true (after_line text)) (after_line text)) (skip_empty (take (before_bundle true (after_line text)) (after_line text))))
+    then with_line text (split_head (drop (before_bundle true (after_line text)) (after_line text)) (skip_empty (take (before_bundle true (after_line text)) (after_line text))))
     else Err BadFirstLine
 
 -- a wrong row is reported by its number

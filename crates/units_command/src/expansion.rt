@@ -11,7 +11,7 @@ ghost use Rattle.units_command.specs.Input.{expanded, expansion, with_row, with_
 ghost use Rattle.units_command.specs.declared.fault.UnitFault.TheVariants.{BadState, BadUnit};
 
 use crate::fault::UnitFault;
-use crate::head::cut_input;
+use crate::head::split_input;
 use crate::homes::{HomeTable, read_homes};
 use crate::keys::Keys;
 use crate::mapping::Tables;
@@ -19,7 +19,7 @@ use crate::writer::write_rows;
 use office_base::limits::MOST_BUNDLE_BYTES;
 use office_base::{OutOfMemory, ReadFault, Source, Text, read_whole};
 use office_text::skip_mark;
-use season_file::{Pieces, cut_with_requests};
+use season_file::{Pieces, split_with_requests};
 use std::alloc::Global;
 
 /// The bytes that a source gives up to its end.
@@ -138,7 +138,7 @@ fn expand_bundle(alloc: Global, tables: Tables<'_>, bundle: &[u8]) -> Result<Tex
     if !is_text(bundle) {
         return Ok(copied(alloc, bundle)?);
     }
-    match cut_with_requests(bundle) {
+    match split_with_requests(bundle) {
         Ok(cut) => write_bundle(alloc, tables, bundle, cut),
         Err(_) => Ok(copied(alloc, bundle)?),
     }
@@ -150,7 +150,7 @@ fn expand_bytes(alloc: Global, bytes: &[u8]) -> Result<Text, UnitFault>
     ensures value { IfOk result (λ text. IsExpansion bytes.now text) }
     ensures fault { IfErr result (λ fault. IsFaultOf (expansion bytes.now) fault) }
 {
-    let input = cut_input(skip_mark(bytes))?;
+    let input = split_input(skip_mark(bytes))?;
     let units = read_units(alloc, input.units)?;
     let states = read_states(alloc, input.states)?;
     let tables = Tables {

@@ -2,10 +2,10 @@
 ghost use Rattle.std.specs.Prelude.{◌≡◌, ◌≤◌, ◌++◌, ℕ, List, length, MatchResult, Ok, Err, true, bytes_eq, take, codes};
 ghost use Rattle.office_base.specs.Limits.{most_bundle_bytes};
 ghost use Rattle.season_file.specs.Bundle.{fault_line, title};
-ghost use Rattle.units_command.specs.Input.{before_bundle, cut_before, input_in, input_of};
+ghost use Rattle.units_command.specs.Input.{before_bundle, split_head, input_in, input_of};
 
 use crate::fault::UnitFault;
-use season_file::cutting::{after_line, fault_line, line_len, section, skip_empty, title};
+use season_file::splitting::{after_line, fault_line, line_len, section, skip_empty, title};
 
 /// What an input is cut into: the bodies of two sections, and the bundle.
 #[derive(Clone, Copy)]
@@ -46,10 +46,10 @@ fn before_bundle(bytes: &[u8]) -> usize
 
 /// Returns the two sections in their order, with the bundle. Otherwise returns what there is from the first wrong
 /// line on, before the bundle.
-fn cut_before<'a>(text: &'a [u8], bundle: &'a [u8]) -> Result<Sections<'a>, &'a [u8]>
-    ensures { MatchResult result (λ cut. cut_before bundle.now text.now ≡ Ok (input_in cut))
+fn split_head<'a>(text: &'a [u8], bundle: &'a [u8]) -> Result<Sections<'a>, &'a [u8]>
+    ensures { MatchResult result (λ cut. split_head bundle.now text.now ≡ Ok (input_in cut))
         (λ rest. (length rest.now ≤ length text.now)
-        × (cut_before bundle.now text.now ≡ Err (rest.now ++ bundle.now))) }
+        × (split_head bundle.now text.now ≡ Err (rest.now ++ bundle.now))) }
 {
     let (units, rest) = section(text, b"[units]".as_slice())?;
     let (states, rest) = section(rest, b"[states]".as_slice())?;
@@ -81,7 +81,7 @@ fn begins_input(text: &[u8]) -> bool
 }
 
 /// What an input is cut into, or the fault of its first line or of its sections.
-pub(crate) fn cut_input(text: &[u8]) -> Result<Sections<'_>, UnitFault>
+pub(crate) fn split_input(text: &[u8]) -> Result<Sections<'_>, UnitFault>
     requires { length text.now ≤ most_bundle_bytes }
     ensures { MatchResult result (λ cut. input_of text.now ≡ Ok (input_in cut))
         (λ fault. input_of text.now ≡ Err fault) }
@@ -91,7 +91,7 @@ pub(crate) fn cut_input(text: &[u8]) -> Result<Sections<'_>, UnitFault>
     }
     let rest = after_line(text);
     let (head, bundle) = rest.split_at(before_bundle(rest));
-    match cut_before(skip_empty(head), bundle) {
+    match split_head(skip_empty(head), bundle) {
         Ok(cut) => Ok(cut),
         Err(left) => Err(UnitFault::Section {
             line: line_of_last(text, left.len() + bundle.len()),

@@ -68,5 +68,5 @@ pub fn seats_right()
         → AlwaysLiveRight made.units made.states (facts_of season) }
 {
     season_file::laws::one_reading();
-    histories::laws::runs_its_course();
+    history_laws::laws::runs_its_course();
 }

@@ -6,7 +6,7 @@ use Rattle.season_facts.specs.Season.{facts_of}
 use Rattle.audit_rules.specs.Finals.{GoesOn}
 use Rattle.audit_rules.specs.Stands.{stand_of}
 use Rattle.audit_rules.specs.declared.stand.Stand.{Stand}
-use Rattle.audit_rules.proofs.Along.{read_at}
+use Rattle.audit_rules.proofs.RegisterLists.{read_at}
 use Rattle.audit_rules.proofs.Ending.{Ends, goes_on, must_go_on}
 use Rattle.audit_rules.proofs.Seeking.{nobody_there}
 use Rattle.audit_rules.proofs.finals.are_final.Goals as goal

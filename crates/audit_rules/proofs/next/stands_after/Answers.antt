@@ -4,7 +4,7 @@ use Rattle.season_facts.specs.Season.{facts_of}
 use Rattle.office_moves.specs.State.{with_round}
 use Rattle.audit_rules.specs.Replay.{round_of}
 use Rattle.audit_rules.specs.Stands.{stand_of}
-use Rattle.audit_rules.proofs.Along.{map_more}
+use Rattle.audit_rules.proofs.RegisterLists.{map_more}
 use Rattle.audit_rules.proofs.Seeking.{full_stands, nobody_there, stands_next}
 use Rattle.audit_rules.proofs.next.stands_after.Goals as goal
 

@@ -1,7 +1,7 @@
 use Rattle.std.proofs.Common.{◌∙◌, List, Option, Some, None, get_or, slice_set, ap, sym}
 use Rattle.office_base.specs.declared.asks.Seat.{Seat}
 use Rattle.audit_rules.specs.Stands.{or_seat}
-use Rattle.audit_rules.proofs.Telling.{told_put, told_unknown}
+use Rattle.audit_rules.proofs.SeatsOfRows.{told_put, told_unknown}
 use Rattle.audit_rules.proofs.told.put_row.Goals as goal
 
 pub returns-in_default-clause-told : goal.returns-in_default-clause-told

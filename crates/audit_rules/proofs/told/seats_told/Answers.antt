@@ -1,5 +1,5 @@
 use Rattle.std.proofs.Common.{◌∙◌, length, ap}
-use Rattle.audit_rules.proofs.Telling.{none_along}
+use Rattle.audit_rules.proofs.SeatsOfRows.{none_along}
 use Rattle.audit_rules.proofs.told.seats_told.Goals as goal
 
 pub put_rows-requires : goal.put_rows-requires

@@ -16,8 +16,8 @@ returns-in-Ok-clause-value c =
     let small : c.args.number < 2 ^ 16 = omega arith in
     let same : c.as_slice.result.now ≡ list_head season.matrix c.args.number c.args.prog.0 = search rules in
     let head = c.in_default.ensures.none in
-    list_taken season.matrix season.register.people c.requires.readable c.args.number c.args.prog.0 small c.requires.programme c.as_slice.result.now c.args.bytes.now same head.0 c.cut_text.result.0.now c.cut_text.result.1.now head.1
-    c.cut_text.ensures c.in-Ok.read c.in-Ok.ensures.value
+    list_taken season.matrix season.register.people c.requires.readable c.args.number c.args.prog.0 small c.requires.programme c.as_slice.result.now c.args.bytes.now same head.0 c.split_after_line.result.0.now c.split_after_line.result.1.now head.1
+    c.split_after_line.ensures c.in-Ok.read c.in-Ok.ensures.value
 
 pub returns-clause-fault : goal.returns-clause-fault
 returns-clause-fault c =
@@ -26,5 +26,5 @@ returns-clause-fault c =
     let some : 0 < length season.matrix.programmes = omega (arith, c.requires.programme) in
     let same : c.as_slice.result.now ≡ list_head season.matrix c.args.number c.args.prog.0 = search rules in
     let head = c.in_default.ensures.none in
-    list_refused season.matrix season.register.people c.requires.readable c.args.number c.args.prog.0 small c.requires.programme c.as_slice.result.now c.args.bytes.now same head.0 c.cut_text.result.0.now c.cut_text.result.1.now head.1
-    c.cut_text.ensures c.in-Err.fault (c.in-Err.ensures.fault some)
+    list_refused season.matrix season.register.people c.requires.readable c.args.number c.args.prog.0 small c.requires.programme c.as_slice.result.now c.args.bytes.now same head.0 c.split_after_line.result.0.now c.split_after_line.result.1.now head.1
+    c.split_after_line.ensures c.in-Err.fault (c.in-Err.ensures.fault some)

@@ -16,7 +16,7 @@ returns-in-Ok-clause-value c =
     let small : c.args.number < 2 ^ 16 = omega arith in
     let same : c.as_slice.result.now ≡ round_start c.args.number = search rules in
     let head = c.in_default.ensures.none in
-    round_taken season.matrix season.register.people c.requires c.args.number small c.as_slice.result.now c.args.bytes.now same head.0 c.cut_text.result.0.now c.cut_text.result.1.now head.1 c.cut_text.ensures c.in-Ok.read c.in-Ok.ensures.value
+    round_taken season.matrix season.register.people c.requires c.args.number small c.as_slice.result.now c.args.bytes.now same head.0 c.split_after_line.result.0.now c.split_after_line.result.1.now head.1 c.split_after_line.ensures c.in-Ok.read c.in-Ok.ensures.value
 
 pub returns-clause-fault : goal.returns-clause-fault
 returns-clause-fault c =
@@ -24,4 +24,4 @@ returns-clause-fault c =
     let small : c.args.number < 2 ^ 16 = omega arith in
     let same : c.as_slice.result.now ≡ round_start c.args.number = search rules in
     let head = c.in_default.ensures.none in
-    round_refused season.matrix season.register.people c.requires c.args.number small c.as_slice.result.now c.args.bytes.now same head.0 c.cut_text.result.0.now c.cut_text.result.1.now head.1 c.cut_text.ensures c.in-Err.fault c.in-Err.ensures.fault
+    round_refused season.matrix season.register.people c.requires c.args.number small c.as_slice.result.now c.args.bytes.now same head.0 c.split_after_line.result.0.now c.split_after_line.result.1.now head.1 c.split_after_line.ensures c.in-Err.fault c.in-Err.ensures.fault

@@ -3,7 +3,7 @@ use Rattle.std.proofs.lemmas.Bool.{both_ways}
 use Rattle.std.specs.List.{AllByRecursion}
 use Rattle.office_base.specs.declared.person.Person.{Person}
 use Rattle.list_audit.specs.Reckoning.{AreWorst, IsAhead}
-use Rattle.list_audit.proofs.Walks.{all_at_place, all_taken_next, split_at_place}
+use Rattle.list_audit.proofs.ListPlaces.{all_at_place, all_taken_next, split_at_place}
 use Rattle.list_audit.proofs.ahead.first_ahead.Goals as goal
 
 pub is_ahead-requires-clause-worst : goal.is_ahead-requires-clause-worst

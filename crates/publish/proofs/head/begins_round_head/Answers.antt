@@ -9,24 +9,24 @@ use Rattle.publish.proofs.head.begins_round_head.Goals as goal
 
 pub begins_seated-requires : goal.begins_seated-requires
 begins_seated-requires c =
-    has-no-after 10 c.in-Some-cut.number.now 32 c.in-Some-cut.rest.now (subst (HasNo 10) c.in-Some-cut.ensures.some (c.in-Some.ensures.some.clear 10 c.requires))
+    has-no-after 10 c.in-Some-split_at_byte.number.now 32 c.in-Some-split_at_byte.rest.now (subst (HasNo 10) c.in-Some-split_at_byte.ensures.some (c.in-Some.ensures.some.clear 10 c.requires))
 
 pub returns-then-is_round : goal.returns-then-is_round
 returns-then-is_round c = λ known. (
-  λ begins. whole-from c.args.most c.args.piece.now c.in-Some.rest.now c.in-Some.ensures.some c.in-Some-cut.number.now c.in-Some-cut.rest.now c.in-Some-cut.ensures.some c.in-Some-cut.ensures.first
+  λ begins. whole-from c.args.most c.args.piece.now c.in-Some.rest.now c.in-Some.ensures.some c.in-Some-split_at_byte.number.now c.in-Some-split_at_byte.rest.now c.in-Some-split_at_byte.ensures.some c.in-Some-split_at_byte.ensures.first
       (c.is_round.ensures.0 c.if-is_round.true) (c.begins_seated.ensures.0 begins) known,
-  λ b. c.begins_seated.ensures.1 (whole-seated c.args.most c.args.piece.now c.in-Some.rest.now c.in-Some.ensures.some c.in-Some-cut.number.now c.in-Some-cut.rest.now c.in-Some-cut.ensures.some c.in-Some-cut.ensures.first known b),
+  λ b. c.begins_seated.ensures.1 (whole-seated c.args.most c.args.piece.now c.in-Some.rest.now c.in-Some.ensures.some c.in-Some-split_at_byte.number.now c.in-Some-split_at_byte.rest.now c.in-Some-split_at_byte.ensures.some c.in-Some-split_at_byte.ensures.first known b),
 )
 
 pub returns-else-is_round : goal.returns-else-is_round
 returns-else-is_round c = λ known. (
   λ begins. absurd (false≢true (sym c.if-is_round.false ∙ begins)),
-  λ b. c.is_round.ensures.1 (whole-number c.args.most c.args.piece.now c.in-Some.rest.now c.in-Some.ensures.some c.in-Some-cut.number.now c.in-Some-cut.rest.now c.in-Some-cut.ensures.some c.in-Some-cut.ensures.first known b),
+  λ b. c.is_round.ensures.1 (whole-number c.args.most c.args.piece.now c.in-Some.rest.now c.in-Some.ensures.some c.in-Some-split_at_byte.number.now c.in-Some-split_at_byte.rest.now c.in-Some-split_at_byte.ensures.some c.in-Some-split_at_byte.ensures.first known b),
 )
 
 pub returns-in-None-cut : goal.returns-in-None-cut
 returns-in-None-cut c = λ known. (
-  λ begins. round-from c.args.most c.args.piece.now c.in-Some.rest.now c.in-Some.ensures.some ((c.begins_number.ensures 32 (codes "seated " ++ (decimal 0 ++ 10 ∷ [])) c.in-None-cut.ensures.none).0 begins) known,
-  λ b. (c.begins_number.ensures 32 (codes "seated " ++ (decimal b.count ++ 10 ∷ [])) c.in-None-cut.ensures.none).1
+  λ begins. round-from c.args.most c.args.piece.now c.in-Some.rest.now c.in-Some.ensures.some ((c.begins_number.ensures 32 (codes "seated " ++ (decimal 0 ++ 10 ∷ [])) c.in-None-split_at_byte.ensures.none).0 begins) known,
+  λ b. (c.begins_number.ensures 32 (codes "seated " ++ (decimal b.count ++ 10 ∷ [])) c.in-None-split_at_byte.ensures.none).1
       (round-to c.args.most c.args.piece.now c.in-Some.rest.now c.in-Some.ensures.some known b),
 )

@@ -1,4 +1,4 @@
-use Rattle.published_rounds.proofs.Traces as traces
+use Rattle.published_rounds.proofs.WholeListLaws as traces
 use Rattle.published_rounds.proofs.laws.rounds_leave_no_trace.Goals as goal
 
 pub returns : goal.returns

@@ -3,7 +3,7 @@ use Rattle.office_base.specs.declared.person.Person.{Person}
 use Rattle.choice_lists.specs.Choices.{list_of}
 use Rattle.office_moves.specs.Moves.{next_seek}
 use Rattle.season_facts.specs.Season.{facts_of}
-use Rattle.audit_rules.proofs.Along.{map_more, map_whole}
+use Rattle.audit_rules.proofs.RegisterLists.{map_more, map_whole}
 use Rattle.season_audit.proofs.Seeking.{nobody_there, seek_is}
 use Rattle.season_audit.proofs.sought.seeks_at.Goals as goal
 

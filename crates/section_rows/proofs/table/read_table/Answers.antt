@@ -1,5 +1,5 @@
 use Rattle.std.proofs.Common.{◌≡◌, ◌∷◌, [], ◌++◌, refl, sym, ap, subst, ◌∙◌, Err}
-use Rattle.section_rows.specs.Rows.{Told, rows_of}
+use Rattle.section_rows.specs.Rows.{RowsAhead, rows_of}
 use Rattle.section_rows.specs.Table.{table_of}
 use Rattle.section_rows.proofs.TableLemmas.{no-header, no-rows, read-header, read-more, read-fault, read-all}
 use Rattle.section_rows.proofs.table.read_table.Goals as goal
@@ -8,7 +8,7 @@ use Rattle.section_rows.proofs.table.read_table.Goals.{then-not-branch-via-then-
 pub rows-init : goal.rows-init
 rows-init g c =
     let B = g.B.TableBuilder in
-    let split = sym (ap (λ (t : Told). t.left) c.new-rows.ensures) ∙ rw c.if-not-branch.false at c.in_ok-advance.ensures.more in
+    let split = sym (ap (λ (t : RowsAhead). t.left) c.new-rows.ensures) ∙ rw c.if-not-branch.false at c.in_ok-advance.ensures.more in
     ([], read-header B.bad B.names _ _ _ _ split (sym c.if-not-is_header.ensures), c.requires, refl)
 
 pub rows-preserved : goal.rows-preserved
@@ -36,7 +36,7 @@ pub returns-then-not-branch-clause-fault : goal.returns-then-not-branch-clause-f
 returns-then-not-branch-clause-fault g c =
     let B = g.B.TableBuilder in
     let reading = B.reading (B.beside c.args.builder.now) in
-    let split = sym (ap (λ (t : Told). t.left) c.new-rows.ensures) in
+    let split = sym (ap (λ (t : RowsAhead). t.left) c.new-rows.ensures) in
     let first : table_of B.bad B.names reading (rows_of c.args.body.now) ≡ Err (1, B.bad) = elim c.then-not-branch.branch [
       | then-not-branch-via-then-not-branch w ↦ no-rows B.bad B.names reading _ (split ∙ (rw w.if-not-branch.true at c.in_ok-advance.ensures.more))
       | then-not-branch-via-else-not-branch+then-not-is_header w ↦

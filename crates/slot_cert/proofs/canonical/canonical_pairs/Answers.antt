@@ -3,7 +3,7 @@ use Rattle.std.proofs.lemmas.List.{append-nil, drop_more, drop_all}
 use Rattle.office_base.specs.declared.person.Person.{Person}
 use Rattle.office_base.specs.declared.step.Protections.{Protections}
 use Rattle.slot_cert.specs.Search.{IsSearch}
-use Rattle.slot_cert.proofs.Way.{IsOnTheWay, IsOnTheWay-next, IsCanonical-at_end}
+use Rattle.slot_cert.proofs.PairsSoFar.{IsOnTheWay, IsOnTheWay-next, IsCanonical-at_end}
 use Rattle.slot_cert.proofs.canonical.canonical_pairs.Goals as goal
 use Rattle.slot_cert.proofs.canonical.canonical_pairs.Goals.{in-Some+in_ok-push, in_default}
 

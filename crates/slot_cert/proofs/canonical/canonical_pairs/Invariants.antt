@@ -1,6 +1,6 @@
 use Rattle.std.proofs.Common.{drop}
 use Rattle.slot_cert.specs.Search.{IsSearch}
-use Rattle.slot_cert.proofs.Way.{IsOnTheWay}
+use Rattle.slot_cert.proofs.PairsSoFar.{IsOnTheWay}
 use Rattle.slot_cert.proofs.canonical.canonical_pairs.Given as goal
 
 abbrev pub invariant-loop-person : goal.invariant-loop-person

@@ -1,5 +1,5 @@
 use Rattle.office_base.specs.Placement.{Fills}
-use Rattle.slot_cert.proofs.Walks.{Any-at}
+use Rattle.slot_cert.proofs.ListParts.{Any-at}
 use Rattle.slot_cert.proofs.cert.first_filled.Goals as goal
 
 pub returns-then-fills-clause-found : goal.returns-then-fills-clause-found

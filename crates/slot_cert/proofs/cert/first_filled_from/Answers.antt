@@ -1,6 +1,6 @@
 use Rattle.std.proofs.lemmas.List.{take_rest}
 use Rattle.office_base.specs.Placement.{Fills}
-use Rattle.slot_cert.proofs.Walks.{Any-from_drop, Any-else_first}
+use Rattle.slot_cert.proofs.ListParts.{Any-from_drop, Any-else_first}
 use Rattle.slot_cert.proofs.cert.first_filled_from.Goals as goal
 
 pub returns-in-Some-clause-found : goal.returns-in-Some-clause-found

@@ -1,7 +1,7 @@
 use Rattle.std.proofs.Common.{◌≢◌, ◌+◌, add-one}
 use Rattle.std.proofs.lemmas.List.{take_rest}
 use Rattle.std.proofs.lemmas.Bool.{false≢true, both_ways}
-use Rattle.slot_cert.proofs.Walks.{Pairwise-at}
+use Rattle.slot_cert.proofs.ListParts.{Pairwise-at}
 use Rattle.slot_cert.proofs.cert.stand_once.Goals as goal
 
 pub returns-then-not-is_alone : goal.returns-then-not-is_alone

@@ -5,7 +5,7 @@ use Rattle.season_file.specs.Season.{content_of}
 use Rattle.dossier_file.specs.Dossier.{IsBytesFault}
 use Rattle.dossier_file.specs.Papers.{AreDuePapers}
 use Rattle.dossier_file.specs.declared.fault.DossierFault.{DossierFault}
-use Rattle.dossier_file.proofs.CutLemmas.{published_short}
+use Rattle.dossier_file.proofs.SplitLemmas.{published_short}
 use Rattle.dossier_file.proofs.PartLemmas.{bundle_fault, papers_fault, requests_fault}
 use Rattle.dossier_file.proofs.dossier.Dossier.of_bytes.Goals as goal
 

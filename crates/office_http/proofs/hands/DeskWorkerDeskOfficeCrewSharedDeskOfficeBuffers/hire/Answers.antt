@@ -4,8 +4,8 @@ use Rattle.office_desk.specs.Words.{seen_of}
 use Rattle.office_http.proofs.Handing.{none_among}
 use Rattle.office_http.proofs.hands.DeskWorkerDeskOfficeCrewSharedDeskOfficeBuffers.hire.Goals as goal
 
-pub returns-clause-hired : goal.returns-clause-hired
-returns-clause-hired g c =
+pub returns-clause-after_hire : goal.returns-clause-after_hire
+returns-clause-after_hire g c =
     let s = c.in-Ok.ensures.split.2 in
     record {
       shares = s.shares;

@@ -2,8 +2,8 @@ use Rattle.std.proofs.Common.{◌≡◌, rules}
 use Rattle.office_http.proofs.Handing.{first_no_more, other_no_more}
 use Rattle.office_http.proofs.hands.DeskWorkerDeskOfficeCrewSharedDeskOfficeBuffers.take_in.Goals as goal
 
-pub returns-clause-joined : goal.returns-clause-joined
-returns-clause-joined g c =
+pub returns-clause-after_return : goal.returns-clause-after_return
+returns-clause-after_return g c =
     let u = c.join.ensures.union in
     record {
       shares = u.shares;

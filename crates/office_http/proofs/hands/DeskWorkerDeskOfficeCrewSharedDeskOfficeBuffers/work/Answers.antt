@@ -16,13 +16,13 @@ returns g c =
     let facts = (origin_of shop).season in
     let room = (g.K.Keeper.seen (origin_of shop).keeper).holds_room in
     let after = c.serve_door-self.new.counter in
-    let some = c.requires.ready in
+    let some = c.requires.may_work in
     let w = visited_is_served (AnswersAt facts) (UnanswersAt facts room) _ (λ k. known_of k.pass.now) (λ k. k.desk.now ≡ shop)
     (λ k k' token ask r keeps a. asked_there (λ o. (g.K.Keeper.seen o).holds_room) shop k.desk.now k'.desk.now (known_of k.pass.now) (known_of k'.pass.now) token ask r keeps a)
     (telling D L)
     c.args.door.now c.serve_door-self.new.door _ after refl v.visited v.out (ended_so c.serve_door-self.result _ _ _ v.done v.failed) in
     let shares = w.shares in
     record {
-      able = (subst (λ desk. belongs desk after.pass.now) w.keeps after.same_desk, omega (arith, shares, some), omega arith);
-      worked = record { entries = w.entries; failures = w.failures; served = w.served; own = w.own; rose = w.rose; begins = w.begins; shares = w.shares; fails = v.failed; ends = v.done };
+      may_hire = (subst (λ desk. belongs desk after.pass.now) w.keeps after.same_desk, omega (arith, shares, some), omega arith);
+      after_work = record { entries = w.entries; failures = w.failures; served = w.served; own = w.own; rose = w.rose; begins = w.begins; shares = w.shares; fails = v.failed; ends = v.done };
     }

@@ -1,7 +1,7 @@
 use Rattle.std.proofs.Common.{◌≡◌, ◌∷◌, [], List, None, arith, length, refl, sym, ap, ◌∙◌, subst}
 use Rattle.std.specs.Prelude.{replicate}
 use Rattle.kept_rows.specs.declared.rows.RaiseRow.{RaiseRow}
-use Rattle.office_turns.specs.Turns.{no_turns}
+use Rattle.answer_table.specs.Turns.{no_turns}
 use Rattle.round_options.specs.declared.standing.Standing.TheVariants.{Waiting}
 use Rattle.office_moves.specs.Facts.{SeasonFacts}
 use Rattle.office_moves.specs.Raised.{raised}

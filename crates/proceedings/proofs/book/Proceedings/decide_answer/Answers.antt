@@ -10,6 +10,6 @@ pub returns-in-Some : goal.returns-in-Some
 returns-in-Some c =
     let P = IsAt c.args.self.now.season c.in-Some.at in
     let here = subst (λ (p : Proceeding). row_of c.args.row.cand.0 p.season.people ≡ Some c.in-Some.at) c.self.view_is (sym c.in-Some.ensures.row) in (
-      c.judge_answer.ensures ∙ ap (λ looks. judge_answer looks c.args.by c.args.row) c.answer_looks-looks.ensures,
-      subst P (sym c.judge_answer.ensures) (answer_keeps P (λ r. tt) c.answer_looks-looks.result c.args.by c.args.row tt here),
+      c.judge_answer.ensures ∙ ap (λ looks. judge_answer looks c.args.by c.args.row) c.answer_facts-looks.ensures,
+      subst P (sym c.judge_answer.ensures) (answer_keeps P (λ r. tt) c.answer_facts-looks.result c.args.by c.args.row tt here),
     )

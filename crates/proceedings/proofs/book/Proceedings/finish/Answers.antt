@@ -11,7 +11,7 @@ use Rattle.office_moves.specs.State.{State, in_window, rows_of, with_finals}
 use Rattle.office_moves.specs.declared.decide.Decision.TheVariants.{Finish}
 use Rattle.office_moves.specs.declared.moves.Act.TheVariants.{Cut}
 use Rattle.office_moves.specs.declared.moves.Entry.{Entry}
-use Rattle.window_ends.specs.WindowEnd.{seats_given}
+use Rattle.cut_arrays.specs.WindowEnd.{seats_given}
 use Rattle.proceedings.specs.Kept.{state_of}
 use Rattle.proceedings.specs.Proceeding.{Proceeding, answers_of, last_of, left_along, table_along}
 use Rattle.proceedings.proofs.ChangeLemmas.{cut_answers, cut_fewer, cut_still, none_moved, finished_last, finished_left, finished_state}

@@ -2,7 +2,7 @@ use Rattle.std.proofs.Common.{◌≡◌, ◌-◌, List, Some, length, option_cop
 use Rattle.std.specs.Prelude.{slice_get}
 use Rattle.rounds.specs.declared.round.Round.{Round}
 use Rattle.season_facts.specs.Season.{facts_of}
-use Rattle.histories.proofs.Entering.{lists_full}
+use Rattle.history_laws.proofs.Entering.{lists_full}
 use Rattle.proceedings.specs.Kept.{state_of}
 use Rattle.proceedings.specs.LastRound.{IsLastRound}
 use Rattle.proceedings.specs.Proceeding.{Proceeding}

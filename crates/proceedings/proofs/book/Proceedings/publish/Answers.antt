@@ -10,7 +10,7 @@ use Rattle.office_moves.specs.State.{State, with_round}
 use Rattle.office_moves.specs.declared.decide.Decision.TheVariants.{Publish}
 use Rattle.office_moves.specs.declared.moves.Act.TheVariants.{Cut}
 use Rattle.office_moves.specs.declared.moves.Entry.{Entry}
-use Rattle.office_turns.specs.Turns.{no_turns}
+use Rattle.answer_table.specs.Turns.{no_turns}
 use Rattle.proceedings.specs.Kept.{state_of}
 use Rattle.proceedings.specs.Proceeding.{Proceeding, answers_of, last_of, left_along, table_along}
 use Rattle.proceedings.proofs.ChangeLemmas.{cut_answers, cut_fewer, cut_still, none_moved, published_early, published_left, published_state}

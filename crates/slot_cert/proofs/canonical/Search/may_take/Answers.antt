@@ -1,6 +1,6 @@
 use Rattle.std.proofs.Common.{ℕ, ◌<◌, get_or, sym, ◌∙◌, subst}
 use Rattle.std.proofs.lemmas.Bool.{ltb-true}
-use Rattle.slot_cert.proofs.Steps.{takes_or_passes}
+use Rattle.slot_cert.proofs.SearchBounds.{takes_or_passes}
 use Rattle.slot_cert.proofs.canonical.Search.may_take.Goals as goal
 use Rattle.slot_cert.proofs.canonical.Search.may_take.Goals.{then-has, else-has}
 

@@ -1,6 +1,6 @@
 use Rattle.std.proofs.Common.{◌+◌, ◌<◌, ◌∙◌, length, arith}
 use Rattle.std.proofs.lemmas.List.{length-set}
-use Rattle.slot_cert.proofs.Steps.{bounds_more, IsLeastBound-numbered}
+use Rattle.slot_cert.proofs.SearchBounds.{bounds_more, IsLeastBound-numbered}
 use Rattle.slot_cert.proofs.canonical.Search.new.Goals as goal
 
 pub loop-n-preserved : goal.loop-n-preserved

@@ -1,5 +1,5 @@
 use Rattle.std.proofs.Common.{ℕ, ◌<◌, get_or, refl, sym, subst}
-use Rattle.slot_cert.proofs.Steps.{AreBounds-left, AreBounds-taken, counted-taken, IsSearch-passed, IsSearch-taken, some_left}
+use Rattle.slot_cert.proofs.SearchBounds.{AreBounds-left, AreBounds-taken, counted-taken, IsSearch-passed, IsSearch-taken, some_left}
 use Rattle.slot_cert.proofs.canonical.Search.place.Goals as goal
 
 pub take-requires-clause-trait_number : goal.take-requires-clause-trait_number

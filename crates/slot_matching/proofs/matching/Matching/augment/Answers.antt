@@ -6,7 +6,7 @@ use Rattle.slot_matching.specs.Augmented.{IsWorstFor}
 use Rattle.slot_matching.specs.Kept.{Kept, MayJoin, with_member, IsKept}
 use Rattle.slot_matching.specs.Members.{IsWorstWithin}
 use Rattle.slot_matching.proofs.Full.{closed_spare, has_spare}
-use Rattle.slot_matching.proofs.Steps.{can_join, joins_where, kept_where, room_for, counted_push, where_failed}
+use Rattle.slot_matching.proofs.OneMemberMore.{can_join, joins_where, kept_where, room_for, counted_push, where_failed}
 use Rattle.slot_matching.proofs.Worst.{worst_for}
 use Rattle.slot_matching.proofs.matching.Matching.augment.Goals as goal
 

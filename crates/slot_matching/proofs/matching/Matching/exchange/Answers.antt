@@ -4,7 +4,7 @@ use Rattle.office_base.specs.declared.person.Person.{Person}
 use Rattle.placements.specs.Ranks.{CanBePlaced, without}
 use Rattle.slot_matching.specs.Kept.{Kept, MayJoin, without_member}
 use Rattle.slot_matching.proofs.Exchanged.{removed_at, taken_out, room_back, counted_without, may_join_without, spare_again}
-use Rattle.slot_matching.proofs.Steps.{kept_where, counted_push}
+use Rattle.slot_matching.proofs.OneMemberMore.{kept_where, counted_push}
 use Rattle.slot_matching.proofs.matching.Matching.exchange.Goals as goal
 
 -- what is given back was taken when the member came

@@ -2,7 +2,7 @@ use Rattle.std.proofs.Common.{◌≡◌, ◌∙◌, subst, sym, length, arith}
 use Rattle.office_base.specs.Placement.{IsHonoured}
 use Rattle.placements.proofs.Hall.{positions_below_few}
 use Rattle.slot_matching.specs.Kept.{Kept, IsKept, all_traits}
-use Rattle.slot_matching.proofs.Steps.{kept_where, members_few, honoured_all}
+use Rattle.slot_matching.proofs.OneMemberMore.{kept_where, members_few, honoured_all}
 use Rattle.slot_matching.proofs.matching.Matching.honoured.Goals as goal
 
 pub overflow_cast-result : goal.overflow_cast-result

@@ -1,7 +1,7 @@
 use Rattle.std.proofs.Common.{◌≡◌, sym, subst}
 use Rattle.placements.specs.Ranks.{CanBePlaced}
 use Rattle.slot_matching.specs.Kept.{Kept, MayJoin, with_member}
-use Rattle.slot_matching.proofs.Steps.{can_join, joins_where}
+use Rattle.slot_matching.proofs.OneMemberMore.{can_join, joins_where}
 use Rattle.slot_matching.proofs.matching.Matching.raises.Goals as goal
 
 -- who has one to spare everywhere can be placed with the members, and nobody else

@@ -1,0 +1,4 @@
+pub mod WindowEnd
+pub mod NextSeeks
+pub mod Rows
+pub mod StateLists

@@ -1,8 +1,0 @@
-use Rattle.std.proofs.Common.{◌≡◌, length, take}
-use Rattle.std.specs.Prelude.{option_copied}
-use Rattle.window_ends.specs.NextSeeks.{seeks_after}
-use Rattle.window_ends.specs.WindowEnd.{seats_of, standings}
-use Rattle.window_ends.proofs.seeking.seeks_after.Given as goal
-
-abbrev pub invariant-loop-at : goal.invariant-loop-at
-invariant-loop-at l = l.seeks.items ≡ take l.at (seeks_after l.choices l.people (standings l.left l.table) (seats_of (length l.people) (option_copied l.last)))

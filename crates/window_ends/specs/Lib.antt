@@ -1,4 +1,0 @@
-pub mod WindowEnd
-pub mod NextSeeks
-pub mod Rows
-pub mod Along
