@@ -22,7 +22,7 @@ use Rattle.kept_rows.specs.declared.rows.AllotRow.{AllotRow}
 use Rattle.kept_rows.specs.declared.rows.RaiseRow.{RaiseRow}
 use Rattle.stored_tables.specs.Fits.{AnswerFits, RaiseFits}
 use Rattle.stored_tables.specs.Layout.{stored, first_four, no_schema, has_tables}
-use Rattle.stored_tables.proofs.CreateLemmas.{MakesAll, all_made, fifth_made, all_stand}
+use Rattle.stored_tables.proofs.CreateLemmas.{RunsEach, all_made, fifth_made, all_stand}
 use Rattle.stored_tables.specs.Leaves.{LeavesTables}
 use Rattle.stored_tables.proofs.LeaveLemmas.{all_leave}
 use Rattle.stored_tables.specs.Told.{told, told_if, is_bare, records_of, tables_with, tables_in, without_raises}
@@ -198,23 +198,9 @@ module _ {S : Type 0} (g : Ghosts S) where
 
   -- ---- what is visible once the tables were made
 
-  made_all : (old last : Held S) → DidAll g (plain_calls table_texts) old last → MakesAll (state g old) (state g last)
-  made_all old last d = record {
-    s1 = state g d.0;
-    s2 = state g d.2.0;
-    s3 = state g d.2.2.0;
-    s4 = state g d.2.2.2.0;
-    n1 = d.1.count;
-    n2 = d.2.1.count;
-    n3 = d.2.2.1.count;
-    n4 = d.2.2.2.1.count;
-    n5 = d.2.2.2.2.1.count;
-    season = d.1.ran;
-    answer = d.2.1.ran;
-    allot = d.2.2.1.ran;
-    phase = d.2.2.2.1.ran;
-    lift = subst (λ (h : Held S). Executes lift_table [] (state g d.2.2.2.0) (state g h) (Ok d.2.2.2.2.1.count)) d.2.2.2.2.2 d.2.2.2.2.1.ran;
-  }
+  runs_each : (texts : List (List ℕ)) (old last : Held S) → DidAll g (plain_calls texts) old last → RunsEach texts (state g old) (state g last)
+  runs_each [] old last d = ap (state g) d
+  runs_each (text ∷ texts) old last d = (state g d.0, d.1.count, d.1.ran, runs_each texts d.0 last d.2)
 
   -- the tables that were there stay, with their rows
   pub tables_left : (old new : Held S) (r : Result (Unit {0}) KeepFault) → (HasCleanDisk (state g new) → OnOk r (Keeps g (DidAll g (plain_calls table_texts)) old new)) → HasCleanDisk (state g new)
@@ -222,7 +208,7 @@ module _ {S : Type 0} (g : Ghosts S) where
   tables_left old new (Err fault) kept clean = tt
   tables_left old new (Ok none) kept clean =
       let k = kept clean in
-      subst (λ (d : Database). LeavesTables (state g old).now d) (sym k.shown) (all_leave (state g (begun old)) (state g k.last) (made_all (begun old) k.last k.done))
+      subst (λ (d : Database). LeavesTables (state g old).now d) (sym k.shown) (all_leave (state g (begun old)) (state g k.last) (runs_each table_texts (begun old) k.last k.done))
 
   -- the tables of an open store that has them are visible
   told_open_is : (h : Held S) (strict : Bool) → IsTrue (state g h).is_open → (state g h).now.schema ≡ stored strict → told (state g h) ≡ tables_in (state g h).now.trees
@@ -233,7 +219,7 @@ module _ {S : Type 0} (g : Ghosts S) where
   fresh_told old new (Err fault) kept clean has = tt
   fresh_told old new (Ok none) kept clean has =
       let k = kept clean in
-      let it = all_made (state g (begun old)) (state g k.last) has (made_all (begun old) k.last k.done) in
+      let it = all_made (state g (begun old)) (state g k.last) has (runs_each table_texts (begun old) k.last k.done) in
       told_open_is new true k.is_open (ap (λ (d : Database). d.schema) k.shown ∙ it.0) ∙ (ap (λ (d : Database). tables_in d.trees) k.shown ∙ it.1)
 
   -- the same trees, if the one of the raises has no row
@@ -251,7 +237,7 @@ module _ {S : Type 0} (g : Ghosts S) where
   older_told old new strict (Err fault) kept clean has = tt
   older_told old new strict (Ok none) kept clean has =
       let k = kept clean in
-      let made = fifth_made strict (state g (begun old)) (state g k.last) has (made_all (begun old) k.last k.done) in
+      let made = fifth_made strict (state g (begun old)) (state g k.last) has (runs_each table_texts (begun old) k.last k.done) in
       let it = made.1 in
       told_open_is new strict k.is_open (ap (λ (d : Database). d.schema) k.shown ∙ made.0)
       ∙ (ap (λ (d : Database). tables_in d.trees) k.shown ∙ bare_raises (state g old).now.trees (state g k.last).now.trees it.others.0 it.others.1.0 it.others.1.1.0 it.others.1.1.1.0 it.empty)
@@ -261,6 +247,6 @@ module _ {S : Type 0} (g : Ghosts S) where
   whole_told old new strict (Err fault) kept clean has = tt
   whole_told old new strict (Ok none) kept clean has =
       let k = kept clean in
-      let it : (state g k.last).now ≡ (state g old).now = all_stand strict (state g (begun old)) (state g k.last) has (made_all (begun old) k.last k.done) in
+      let it : (state g k.last).now ≡ (state g old).now = all_stand strict (state g (begun old)) (state g k.last) has (runs_each table_texts (begun old) k.last k.done) in
       let now : (state g new).now ≡ (state g old).now = k.shown ∙ it in
       told_open_is new strict k.is_open (ap (λ (d : Database). d.schema) now ∙ has) ∙ ap (λ (d : Database). tables_in d.trees) now

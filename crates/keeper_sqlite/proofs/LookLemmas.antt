@@ -18,9 +18,10 @@ use Rattle.stored_tables.specs.Rising.{are_rising}
 use Rattle.stored_tables.specs.Rows.{rows_from, part_of, allot_of, answers_in, raises_in, allots_in, text_in, rising_alone, cuts_of}
 use Rattle.stored_tables.specs.Told.{told, told_if, tables_in, tables_with, records_of, are_bare}
 use Rattle.stored_tables.proofs.StandLemmas.{one_list, one_answer, one_raise, one_allot, one_part, then_some, map_some}
-use Rattle.stored_tables.proofs.ShowLemmas.{shows_phase, shows_parts, shows_answers, shows_raises, shows_allots, phase_same, text_same, answers_same, raises_same}
+use Rattle.stored_tables.proofs.ShowLemmas.{query_same, shows_phase, shows_parts, shows_answers, shows_raises, shows_allots}
+use Rattle.stored_tables.proofs.TextLemmas.{phase_query-is, text_query-is, answers_query-is, raises_query-is}
 use Rattle.keeper_sqlite.specs.Columns.{IsAnswerRow, IsRaiseRow, IsAllotRow, IsPartRow}
-use Rattle.keeper_sqlite.specs.Kept.{Looks, TellsSeason, TellsPhaseOf, TellsKept, TellsTables, phase_query}
+use Rattle.keeper_sqlite.specs.Kept.{Looks, TellsSeason, TellsPhaseOf, TellsKept, TellsTables, phase_query, text_query, answers_query, raises_query}
 use Rattle.sqlite_trees.proofs.Doubt.{no_doubt}
 use Rattle.keeper_sqlite.proofs.KeeperLemmas.{told_has}
 use Rattle.keeper_sqlite.proofs.ToldLemmas.{shown_of}
@@ -64,7 +65,7 @@ module _ {S : Type 0} (g : Ghosts S) where
   phase_is : (strict : Bool) (found : Option ℕ) (old new : Held S) → (state g old).now.schema ≡ stored strict → TellsPhaseOf g found old new → (cuts_of ((state g old).now.trees 5) ≡ Some found) × ((state g new).now ≡ (state g old).now)
   phase_is strict found old new has it =
       let asked = shown_of g phase_query it.rows old new it.asked in
-      (shows_phase strict (state g old) (state g new) it.rows has asked found it.tells, phase_same strict (state g old) (state g new) it.rows has asked)
+      (shows_phase strict (state g old) (state g new) it.rows has asked found it.tells, query_same phase_query _ _ _ _ phase_query-is strict (state g old) (state g new) it.rows has asked)
 
   -- the loaded records are those of the visible tables
   tables_loaded : (strict : Bool) (kept : Kept) (n : ℕ) (db : Database) (old new : Held S) → n ≡ kept.cuts → (state g old).now ≡ db → db.schema ≡ stored strict → TellsTables g kept old new
@@ -73,13 +74,13 @@ module _ {S : Type 0} (g : Ghosts S) where
       let on = λ (d : Database). d.schema in
       let has0 : old.schema ≡ stored strict = ap on same ∙ has in
       let asked1 = shown_of g _ _ old t.one t.season.told.asked in
-      let same1 : (state g t.one).now ≡ db = text_same strict (state g old) (state g t.one) _ has0 asked1 ∙ same in
+      let same1 : (state g t.one).now ≡ db = query_same text_query _ _ _ _ text_query-is strict (state g old) (state g t.one) _ has0 asked1 ∙ same in
       let has1 : t.one.schema ≡ stored strict = ap on same1 ∙ has in
       let asked2 = shown_of g _ _ t.one t.two t.answers.asked in
-      let same2 : (state g t.two).now ≡ db = answers_same strict (state g t.one) (state g t.two) _ has1 asked2 ∙ same1 in
+      let same2 : (state g t.two).now ≡ db = query_same answers_query _ _ _ _ answers_query-is strict (state g t.one) (state g t.two) _ has1 asked2 ∙ same1 in
       let has2 : t.two.schema ≡ stored strict = ap on same2 ∙ has in
       let asked3 = shown_of g _ _ t.two t.three t.raises.asked in
-      let same3 : (state g t.three).now ≡ db = raises_same strict (state g t.two) (state g t.three) _ has2 asked3 ∙ same2 in
+      let same3 : (state g t.three).now ≡ db = query_same raises_query _ _ _ _ raises_query-is strict (state g t.two) (state g t.three) _ has2 asked3 ∙ same2 in
       let has3 : t.three.schema ≡ stored strict = ap on same3 ∙ has in
       let asked4 = shown_of g _ _ t.three new t.allots.asked in
       loaded_with n (text_in db.trees) (answers_in db.trees) (raises_in db.trees) (allots_in db.trees) kept cuts

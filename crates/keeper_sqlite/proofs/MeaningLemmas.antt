@@ -26,9 +26,7 @@ use Rattle.stored_tables.proofs.TableLemmas.{puts_answer, puts_raise, puts_allot
 use Rattle.stored_tables.proofs.PhaseLemmas.{puts_cuts, opens_phase}
 use Rattle.stored_tables.proofs.ShowLemmas.{IsLastKey, shows_phase, shows_key, shows_answers, shows_raises, shows_allots, shows_parts, phase_stands}
 use Rattle.stored_tables.proofs.CreateLemmas.{makes_none}
-use Rattle.sqlite.specs.Command.TheVariants.{Nothing}
-use Rattle.sqlite.specs.Listing.{understood}
-use Rattle.sqlite.proofs.Callers.{IsPlain, command_of}
+use Rattle.stored_tables.proofs.TextLemmas.{IsThere}
 use Rattle.keeper_sqlite.specs.Columns.{IsAnswerRow, IsRaiseRow, IsAllotRow, IsPartRow, TellsKey}
 use Rattle.keeper_sqlite.specs.Rising.{key_after, key_of}
 use Rattle.keeper_sqlite.specs.declared.halt.Halt.{Halt}
@@ -85,10 +83,10 @@ module _ {S : Type 0} (g : Ghosts S) where
       let did = ran clean in opens_phase strict (state g old) (state g new) has (subst (λ (h : Held S). Executes opening_text opening_values (state g old) (state g h) (Ok 1)) did.2 did.1)
 
   -- a table that exists is not made
-  pub table_stands : (strict : Bool) (text : List ℕ) (old new : Held S) (r : Result (Unit {0}) Halt) → (command_of (understood (stored strict) text) ≡ Nothing) × IsPlain (understood (stored strict) text) → old.schema ≡ stored strict
+  pub table_stands : (strict : Bool) (text : List ℕ) (old new : Held S) (r : Result (Unit {0}) Halt) → IsThere (stored strict) text → old.schema ≡ stored strict
       → (HasCleanDisk (state g new) → OnOk r (DidAll g (Runs text [] ∷ []) old new)) → HasCleanDisk (state g new) → OnOk r ((state g new).now ≡ (state g old).now)
   table_stands strict text old new r there has =
-      put_by text [] (λ a b. b ≡ a) old new r (λ count ran. makes_none (stored strict) text (state g old) (state g new) count there.0 there.1 has ran)
+      put_by text [] (λ a b. b ≡ a) old new r (λ count ran. makes_none (stored strict) text (state g old) (state g new) count there has ran)
 
   -- ---- what is visible
 

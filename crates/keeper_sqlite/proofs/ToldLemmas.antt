@@ -1,11 +1,12 @@
 -- What is visible of a store once a change was made in a transaction.
 use Rattle.std.proofs.Common.{◌≡◌, ◌+◌, ◌⊎◌, inl, inr, ℕ, pos, Bool, true, ◌&&◌, IsTrue, List, [], ◌∷◌, ◌++◌, fold, append-nil, append_assoc, slice_get, Option, Some, None, option_map, option_and_then, Ok, refl, sym, ap, ap₂, subst, ◌∙◌}
-use Rattle.std.specs.List.{AllByRecursion}
+use Rattle.std.specs.List.{AllByRecursion, AllZip}
 use Rattle.std.proofs.lemmas.Bool.{cases_Bool}
 use Rattle.sqlite.specs.declared.types.Value.TheVariants.{Int}
 use Rattle.sqlite.specs.Store.{Ghosts}
 use Rattle.sqlite.specs.Order.{Row, column}
 use Rattle.sqlite.specs.Tree.{Trees}
+use Rattle.sqlite.specs.Term.{Term}
 use Rattle.sqlite.specs.Effect.{Database}
 use Rattle.sqlite.specs.State.{State, Executes, Shown}
 use Rattle.sqlite.specs.Held.{Held, state}
@@ -22,18 +23,18 @@ use Rattle.stored_tables.specs.Told.{told, told_if, tables_in}
 use Rattle.stored_tables.specs.Puts.{HasParts, Stay}
 use Rattle.stored_tables.proofs.LayoutLemmas.{layout}
 use Rattle.stored_tables.proofs.RowLemmas.{after}
-use Rattle.stored_tables.proofs.TextLemmas.{any_part-is, any_answer-is, any_raise-is, any_allot-is}
+use Rattle.stored_tables.proofs.TextLemmas.{IsAsked, one_row, phase_query-is, key_query-is, any_part-is, any_answer-is, any_raise-is, any_allot-is}
 use Rattle.stored_tables.proofs.TableLemmas.{puts_answer, puts_raise, puts_allot, puts_part}
 use Rattle.stored_tables.proofs.PhaseLemmas.{puts_cuts, opens_phase}
 use Rattle.stored_tables.proofs.OrderLemmas.{more_rise, rising_exactly}
-use Rattle.stored_tables.proofs.SchemaLemmas.{Keeps, answer_text_keeps, raise_text_keeps, allot_text_keeps, part_text_keeps, opening_text_keeps, cuts_text_keeps, shown_keeps}
-use Rattle.stored_tables.proofs.ShowLemmas.{IsLastKey, shows_phase, shows_key, shows_no_part, shows_no_answer, shows_no_raise, shows_no_allot, phase_stands, phase_same, key_same, none_same}
+use Rattle.stored_tables.proofs.SchemaLemmas.{Keeps, PutsRows, put_keeps, answer_text-puts, raise_text-puts, allot_text-puts, part_text-puts, opening_text-puts, cuts_text-puts, shown_keeps}
+use Rattle.stored_tables.proofs.ShowLemmas.{IsLastKey, query_same, shows_phase, shows_key, shows_none, phase_stands}
 use Rattle.stored_tables.proofs.TellLemmas.{answer_told, raise_told, cut_told, none_told, season_told}
 use Rattle.stored_tables.proofs.StandLemmas.{same_number}
 use Rattle.keeper_sqlite.specs.Columns.{TellsKey}
 use Rattle.keeper_sqlite.specs.Rising.{rise_after_key, key_of}
 use Rattle.keeper_sqlite.specs.declared.rising.Key.{Key}
-use Rattle.keeper_sqlite.specs.Kept.{Call, Ran, Did, DidAll, PutsText, MakesCut, AreAbove, ToldPhase, IsReady, answer_text, answer_values, raise_text, raise_values, allot_text, allot_calls, part_text, part_calls, text_calls, seat_calls, season_calls, opening_text, opening_values, cuts_text, cuts_values, key_query, phase_query}
+use Rattle.keeper_sqlite.specs.Kept.{Call, Ran, Did, DidAll, PutsText, MakesCut, AreAbove, ToldPhase, IsReady, answer_text, answer_values, raise_text, raise_values, allot_text, allot_calls, part_text, part_calls, text_calls, seat_calls, season_calls, unanswered_calls, any_row_queries, opening_text, opening_values, cuts_text, cuts_values, key_query, phase_query}
 use Rattle.keeper_sqlite.specs.Kept as Kept
 use Rattle.keeper_sqlite.specs.Kept.Call.{Runs, Places, Asks, Readies}
 
@@ -72,19 +73,9 @@ module _ {S : Type 0} (g : Ghosts S) where
 
   -- ---- the schema stays, and the connection was open
 
-  -- one of the texts of which a put has several
-  abbrev IsPut : List ℕ → Type 0
-  IsPut text = (text ≡ allot_text) ⊎ ((text ≡ part_text) ⊎ ((text ≡ opening_text) ⊎ (text ≡ cuts_text)))
-
-  put_keeps : (text : List ℕ) → IsPut text → (values : Row) (old new : State) (count : ℕ) → Executes text values old new (Ok count) → Keeps old new
-  put_keeps text (inl is) values old new count h = allot_text_keeps values old new count (subst (λ t. Executes t values old new (Ok count)) is h)
-  put_keeps text (inr (inl is)) values old new count h = part_text_keeps values old new count (subst (λ t. Executes t values old new (Ok count)) is h)
-  put_keeps text (inr (inr (inl is))) values old new count h = opening_text_keeps values old new count (subst (λ t. Executes t values old new (Ok count)) is h)
-  put_keeps text (inr (inr (inr is))) values old new count h = cuts_text_keeps values old new count (subst (λ t. Executes t values old new (Ok count)) is h)
-
   abbrev KeepsCall : Call → Type 0
-  KeepsCall (Runs text values) = IsPut text
-  KeepsCall (Places text values) = IsPut text
+  KeepsCall (Runs text values) = PutsRows text
+  KeepsCall (Places text values) = PutsRows text
   KeepsCall (Asks text rows) = Unit {0}
   KeepsCall (Readies text) = Unit {0}
 
@@ -106,18 +97,18 @@ module _ {S : Type 0} (g : Ghosts S) where
       (more.0 ∙ one.0, λ is_so. one.1)
 
   keep_parts : (n : ℕ) (parts : List (List ℕ)) → AllByRecursion KeepsCall (part_calls part_text n parts ++ Places opening_text opening_values ∷ [])
-  keep_parts n [] = (inr (inr (inl refl)), tt)
-  keep_parts n (part ∷ parts) = (inr (inl refl), keep_parts (n + 1) parts)
+  keep_parts n [] = (opening_text-puts, tt)
+  keep_parts n (part ∷ parts) = (part_text-puts, keep_parts (n + 1) parts)
 
   keep_seats : (made : ℕ) (rows : List AllotRow) → AllByRecursion KeepsCall (allot_calls allot_text rows ++ Runs cuts_text (cuts_values (made + 1)) ∷ [])
-  keep_seats made [] = (inr (inr (inr refl)), tt)
-  keep_seats made (row ∷ rows) = (inl refl, keep_seats made rows)
+  keep_seats made [] = (cuts_text-puts, tt)
+  keep_seats made (row ∷ rows) = (allot_text-puts, keep_seats made rows)
 
   pub answer_keeps : (row : AnswerRow) (old last : Held S) → Ran g answer_text (answer_values row) old last → KeepsIf old last
-  answer_keeps row old last ran = let it = answer_text_keeps (answer_values row) (state g old) (state g last) ran.count ran.ran in (it.0, λ is_so. it.1)
+  answer_keeps row old last ran = let it = put_keeps answer_text answer_text-puts (answer_values row) (state g old) (state g last) ran.count ran.ran in (it.0, λ is_so. it.1)
 
   pub raise_keeps : (row : RaiseRow) (old last : Held S) → Ran g raise_text (raise_values row) old last → KeepsIf old last
-  raise_keeps row old last ran = let it = raise_text_keeps (raise_values row) (state g old) (state g last) ran.count ran.ran in (it.0, λ is_so. it.1)
+  raise_keeps row old last ran = let it = put_keeps raise_text raise_text-puts (raise_values row) (state g old) (state g last) ran.count ran.ran in (it.0, λ is_so. it.1)
 
   pub season_keeps : (text : List ℕ) (old last : Held S) → PutsText g season_calls text old last → KeepsIf old last
   season_keeps text old last put = keeps_all (season_calls put.parts) old last (tt, (tt, (tt, (tt, (tt, keep_parts 0 put.parts))))) put.done
@@ -198,10 +189,10 @@ module _ {S : Type 0} (g : Ghosts S) where
   cut_made_told strict rows old last has m =
       let phase = shown_of _ _ old m.asked m.phase.asked in
       let cuts : cuts_of ((state g old).now.trees 5) ≡ Some (Some m.made) = shows_phase strict (state g old) (state g m.asked) _ has phase (Some m.made) (m.phase.row, refl, m.phase.is) in
-      let one : (state g m.asked).now ≡ (state g old).now = phase_same strict (state g old) (state g m.asked) _ has phase in
+      let one : (state g m.asked).now ≡ (state g old).now = query_same phase_query _ _ _ _ phase_query-is strict (state g old) (state g m.asked) _ has phase in
       let has_one : m.asked.schema ≡ stored strict = ap (λ (d : Database). d.schema) one ∙ has in
       let key = shown_of _ _ m.asked m.tested m.above.asked in
-      let two : (state g m.tested).now ≡ (state g old).now = key_same strict (state g m.asked) (state g m.tested) _ has_one key ∙ one in
+      let two : (state g m.tested).now ≡ (state g old).now = query_same key_query _ _ _ _ key_query-is strict (state g m.asked) (state g m.tested) _ has_one key ∙ one in
       let ready : (state g m.put.0).now ≡ (state g old).now = m.put.1.same.0.now_is ∙ two in
       let trees : (state g m.put.0).now.trees ≡ (state g old).now.trees = ap (λ (d : Database). d.trees) ready in
       let seats = seats_put strict rows _ m.put.0 last m.fit (ap (λ (d : Database). d.schema) ready ∙ has) m.put.2 in
@@ -248,6 +239,25 @@ module _ {S : Type 0} (g : Ghosts S) where
         more.2,
       )
 
+  -- each text asks for one row of the table in its tree
+  abbrev AreAsked : List (List ℕ) → List ℕ → Type 0
+  AreAsked = AllZip (λ text t. (project : List Term) × IsAsked text t project [] one_row)
+
+  any_asked : AreAsked any_row_queries (0 ∷ 1 ∷ 6 ∷ 3 ∷ [])
+  any_asked = ((_, any_part-is), ((_, any_answer-is), ((_, any_raise-is), ((_, any_allot-is), tt))))
+
+  -- if no text shows a row, none of these tables has one
+  none_asked : (strict : Bool) (texts : List (List ℕ)) (trees : List ℕ) (rest : List Call) (old last : Held S) → AreAsked texts trees → old.schema ≡ stored strict → DidAll g (unanswered_calls texts ++ rest) old last
+      → (mid : Held S) × ((state g mid).now ≡ (state g old).now) × AllByRecursion (λ t. (state g old).now.trees t ≡ []) trees × DidAll g rest mid last
+  none_asked strict [] [] rest old last asked has did = (old, refl, tt, did)
+  none_asked strict [] (t ∷ trees) rest old last asked has did = absurd asked
+  none_asked strict (text ∷ texts) [] rest old last asked has did = absurd asked
+  none_asked strict (text ∷ texts) (t ∷ trees) rest old last asked has did =
+      let same = query_same text t asked.0.0 [] one_row asked.0.1 strict (state g old) (state g did.0) [] has did.1 in
+      let bare = shows_none text t asked.0.0 asked.0.1 strict (state g old) (state g did.0) has did.1 in
+      let more = none_asked strict texts trees rest did.0 last asked.1 (ap (λ (d : Database). d.schema) same ∙ has) did.2 in
+      (more.0, more.1 ∙ same, (bare, subst (λ (d : Database). AllByRecursion (λ t. d.trees t ≡ []) trees) same more.2), more.3)
+
   -- none of the five tables has a row, and then a season is visible
   pub record SeasonMade (text : List ℕ) (old last : Held S) : Type 0 where
     pub before : tables_in (state g old).now.trees ≡ NoSeason
@@ -256,26 +266,14 @@ module _ {S : Type 0} (g : Ghosts S) where
 
   pub season_made : (strict : Bool) (text : List ℕ) (old last : Held S) → (state g old).now.schema ≡ stored strict → PutsText g season_calls text old last → SeasonMade text old last
   season_made strict text old last has put =
-      let d = put.done in
-      let on = λ (b : Database). b.schema in
-      let h1 = d.0 in
-      let e1 : (state g h1).now ≡ (state g old).now = none_same strict _ (state g old) (state g h1) [] has (any_part-is strict).2 d.1 in
-      let n0 : (state g old).now.trees 0 ≡ [] = shows_no_part strict (state g old) (state g h1) has d.1 in
-      let d2 = d.2 in
-      let h2 = d2.0 in
-      let e2 : (state g h2).now ≡ (state g old).now = none_same strict _ (state g h1) (state g h2) [] (ap on e1 ∙ has) (any_answer-is strict).2 d2.1 ∙ e1 in
-      let n1 : (state g old).now.trees 1 ≡ [] = ap (λ (b : Database). b.trees 1) (sym e1) ∙ shows_no_answer strict (state g h1) (state g h2) (ap on e1 ∙ has) d2.1 in
-      let d3 = d2.2 in
-      let h3 = d3.0 in
-      let e3 : (state g h3).now ≡ (state g old).now = none_same strict _ (state g h2) (state g h3) [] (ap on e2 ∙ has) (any_raise-is strict).2 d3.1 ∙ e2 in
-      let n6 : (state g old).now.trees 6 ≡ [] = ap (λ (b : Database). b.trees 6) (sym e2) ∙ shows_no_raise strict (state g h2) (state g h3) (ap on e2 ∙ has) d3.1 in
-      let d4 = d3.2 in
-      let h4 = d4.0 in
-      let e4 : (state g h4).now ≡ (state g old).now = none_same strict _ (state g h3) (state g h4) [] (ap on e3 ∙ has) (any_allot-is strict).2 d4.1 ∙ e3 in
-      let n3 : (state g old).now.trees 3 ≡ [] = ap (λ (b : Database). b.trees 3) (sym e3) ∙ shows_no_allot strict (state g h3) (state g h4) (ap on e3 ∙ has) d4.1 in
-      let d5 = d4.2 in
-      let e5 : (state g d5.0).now ≡ (state g old).now = d5.1.same.0.now_is ∙ e4 in
-      let has5 : d5.0.schema ≡ stored strict = ap on e5 ∙ has in
+      let asked = none_asked strict any_row_queries (0 ∷ 1 ∷ 6 ∷ 3 ∷ []) (text_calls put.parts ++ Places opening_text opening_values ∷ []) old last any_asked has put.done in
+      let n0 = asked.2.0 in
+      let n1 = asked.2.1.0 in
+      let n6 = asked.2.1.1.0 in
+      let n3 = asked.2.1.1.1.0 in
+      let d5 = asked.3 in
+      let e5 : (state g d5.0).now ≡ (state g old).now = d5.1.same.0.now_is ∙ asked.1 in
+      let has5 : d5.0.schema ≡ stored strict = ap (λ (b : Database). b.schema) e5 ∙ has in
       let bare : (state g d5.0).now.trees 0 ≡ [] = ap (λ (b : Database). b.trees 0) e5 ∙ n0 in
       let none : HasParts 0 [] (state g d5.0).now.trees = record { told = ap (rows_from part_of 0) bare; top = ap (fold after (pos 0)) bare } in
       let parts = parts_put strict 0 [] put.parts _ d5.0 last has5 none d5.2 in

@@ -11,7 +11,7 @@ use Rattle.sqlite.specs.Outline.{Outline}
 use Rattle.sqlite.specs.Steps.{Outlines}
 use Rattle.kept_rows.specs.declared.rows.AllotRow.{AllotRow}
 use Rattle.kept_rows.specs.declared.rows.Kept.{Kept}
-pub use Rattle.stored_tables.specs.Texts.{answer_text, answer_values, raise_text, raise_values, allot_text, allot_values, cuts_text, cuts_values, phase_query, opening_text, opening_values, part_text, part_values, text_query, answers_query, raises_query, allots_query, key_query, any_part, any_answer, any_raise, any_allot, season_table, phase_table, answer_table, lift_table, allot_table}
+pub use Rattle.stored_tables.specs.Texts.{answer_text, answer_values, raise_text, raise_values, allot_text, allot_values, cuts_text, cuts_values, phase_query, opening_text, opening_values, part_text, part_values, text_query, answers_query, raises_query, allots_query, key_query, any_part, any_answer, any_raise, any_allot, season_table, phase_table, answer_table, lift_table, allot_table, table_texts}
 use Rattle.stored_tables.specs.Fits.{AllotFits}
 use Rattle.keeper_sqlite.specs.Columns.{IsPhaseRow, IsPartRow, IsAnswerRow, IsRaiseRow, IsAllotRow, TellsPhase, TellsKey}
 use Rattle.keeper_sqlite.specs.Rising.{rise_after_key}
@@ -31,10 +31,6 @@ pub data Call : Type 0 where
   Places : List ℕ → Row → Call
   Asks : List ℕ → List Row → Call
   Readies : List ℕ → Call
-
--- the five tables, each made if it is missing
-abbrev pub table_texts : List (List ℕ)
-table_texts = season_table ∷ answer_table ∷ allot_table ∷ phase_table ∷ lift_table ∷ []
 
 -- each text is run as it is, with no values
 abbrev pub plain_calls : List (List ℕ) → List Call

@@ -1,25 +1,25 @@
 -- Whatever the schema is, each text that makes a table leaves the tables that were there, with their rows.
-use Rattle.std.proofs.Common.{◌≡◌, ◌+◌, ◌⊎◌, ◌==◌, ◌&&◌, not, cond, inl, inr, ℕ, List, [], ◌∷◌, ◌++◌, append-nil, append_assoc, length, Bool, true, false, Option, Some, None, Ok, Err, refl, sym, ap, subst, ◌∙◌}
+use Rattle.std.proofs.Common.{◌≡◌, ◌⊎◌, ◌==◌, ◌&&◌, not, cond, inl, inr, ℕ, List, [], ◌∷◌, ◌++◌, append-nil, append_assoc, length, Bool, true, false, Option, Some, None, Ok, Err, refl, sym, ap, subst, ◌∙◌}
 use Rattle.std.proofs.lemmas.Bool.{cases_Bool}
+use Rattle.std.specs.List.{AllByRecursion}
 use Rattle.sqlite.specs.Schema.{Schema}
 use Rattle.sqlite.specs.Table.{Table}
 use Rattle.sqlite.specs.Tree.{Trees}
 use Rattle.sqlite.specs.Change.{KeepsRows, next_tree}
 use Rattle.sqlite.specs.Command.{Command}
 use Rattle.sqlite.specs.Command.TheVariants.{CreateTable as MakeTable, Nothing}
-use Rattle.sqlite.specs.Compile.{compiled, first, planned, meaning, command, with_command, timed as stamped, small, returning}
+use Rattle.sqlite.specs.Compile.{compiled, first, command}
 use Rattle.sqlite.specs.Effect.{Database}
 use Rattle.sqlite.specs.Rows.{Then}
 use Rattle.sqlite.specs.Does.{Tally, Does, Defines, MakesTable, MakesSequence, lacks_sequence}
 use Rattle.sqlite.specs.Clock.{timed}
-use Rattle.sqlite.specs.Listing.{understood, reads_listing, if_select, listing_schema}
+use Rattle.sqlite.specs.Listing.{understood, if_select, listing_schema}
 use Rattle.sqlite.specs.Order.{Row}
 use Rattle.sqlite.specs.State.{State, mode_of, text_of, shows_rows, Runs, ExecutesIn, Executes}
 use Rattle.sqlite.specs.declared.run.Mode.{Mode}
 use Rattle.sqlite_resolve.specs.Compile.{create_table}
 use Rattle.sqlite_resolve.specs.Define as define
 use Rattle.sqlite_resolve.specs.Lowering.{Checked, and_then}
-use Rattle.sqlite_resolve.specs.declared.compiled.Compiled.{Compiled}
 use Rattle.sqlite_resolve.specs.declared.error.CompileError.{CompileError}
 use Rattle.sqlite_resolve.specs.declared.error.CompileError.TheVariants.{Unsupported}
 use Rattle.sqlite_schema.specs.declared.command.Returning.{Returning}
@@ -28,9 +28,10 @@ use Rattle.sqlite_ast.specs.declared.Statement.TheVariants as written
 use Rattle.sqlite_ast.specs.declared.CreateTable.{CreateTable}
 use Rattle.sqlite_tied.specs.Compute.{everything}
 use Rattle.stored_tables.specs.Leaves.{LeavesTables}
-use Rattle.stored_tables.specs.Texts.{season_table, answer_table, allot_table, phase_table, lift_table}
+use Rattle.stored_tables.specs.Texts.{season_table, answer_table, allot_table, phase_table, lift_table, table_texts}
 use Rattle.stored_tables.proofs.PutLemmas.{went, same_value}
-use Rattle.stored_tables.proofs.CreateLemmas.{MakesAll}
+use Rattle.stored_tables.proofs.CompileLemmas.{then_inv, IsText, understood_as}
+use Rattle.stored_tables.proofs.CreateLemmas.{RunsEach}
 
 -- ---- tables and rows
 
@@ -82,10 +83,6 @@ does_leave limit mode params text (Some what) old done h = absurd (let e = h in 
 
 -- ---- what the texts are
 
-pub then_inv : {A B : Type 0} (x : Checked A) (f : A → Checked B) (b : B) → and_then x f ≡ Ok b → (a : A) × (x ≡ Ok a) × (f a ≡ Ok b)
-then_inv (Ok a) f b h = (a, refl, h)
-then_inv (Err e) f b h = absurd (let k = h in cc)
-
 -- a table is made, or there is one
 abbrev Makes : Command → Type 0
 Makes c = (c ≡ MakeTable) ⊎ (c ≡ Nothing)
@@ -116,34 +113,9 @@ abbrev is_create : Checked Parsed → Type 0
 is_create (Ok p) = (def : CreateTable) × (p.statement ≡ written.CreateTable def)
 is_create (Err e) = ⊥
 
-compiles : (schema : Schema) (text : List ℕ) (c : Compiled) → is_create (first text) → compiled schema text ≡ Ok c → Makes c.command
-unfolding compiled planned meaning command
-compiles schema text c plain h =
-    let one = then_inv (first text) (λ p. and_then (planned schema p) (λ plan. Ok (with_command p plan))) c h in
-    let p : is_create (Ok one.0) = subst is_create one.1 plain in
-    let formats = stamped schema one.0.formats one.0.statement in
-    let base = small one.0.names + small formats in
-    let two = then_inv (planned schema one.0) (λ plan. Ok (with_command one.0 plan)) c one.2 in
-    let three = then_inv (meaning schema one.0 base) (λ found. Ok (formats, found)) two.0 two.1 in
-    let four = then_inv (returning schema base one.0.statement) (λ shown. and_then (command schema one.0.formats base one.0.statement) (λ k. Ok (k, shown))) three.0 three.1 in
-    let five = then_inv (command schema one.0.formats base one.0.statement) (λ k. Ok (k, four.0)) three.0 four.2 in
-    let is : command schema one.0.formats base one.0.statement ≡ create_table schema one.0.formats p.0 = ap (command schema one.0.formats base) p.1 in
-    let it = makes schema one.0.formats p.0 five.0 (sym is ∙ five.1) in
-    let same : five.0 ≡ c.command =
-    ap (λ (k : Command × Option Returning). k.0) (same_value five.2) ∙ (ap (λ (k : List (List ℕ) × (Command × Option Returning)). k.1.0) (same_value three.2) ∙ ap (λ (k : Compiled). k.command) (same_value two.2)) in
-    subst Makes same it
-
--- a text that makes a table
-record Creates (text : List ℕ) : Type 0 where
-  plain : is_create (first text)
-  unlisted : (e : CompileError) × (if_select (compiled listing_schema text) ≡ Err e)
-
-makes_table : (text : List ℕ) → Creates text → (schema : Schema) (c : Compiled) → understood schema text ≡ Ok c → Makes c.command
-unfolding understood
-makes_table text p schema c h = elim (cases_Bool (reads_listing schema text)) [
-  | inl lists ↦ absurd (let e = sym p.unlisted.1 ∙ (rw lists at h) in cc)
-  | inr bare ↦ compiles schema text c p.plain (rw bare at h)
-]
+resolves : (p : Parsed) → is_create (Ok p) → (schema : Schema) (base : ℕ) (c : Command) → command schema p.formats base p.statement ≡ Ok c → Makes c
+unfolding command
+resolves p create schema base c h = makes schema p.formats create.0 c (sym (ap (command schema p.formats base) create.1) ∙ h)
 
 runs_leave : (old new : State) (returning : Option Returning) (command : Command) (text : List ℕ) (params : Row) (count : ℕ) → Makes command → Runs old new returning command text params count → LeavesTables old.now new.now
 runs_leave old new returning command text params count (inl is) h =
@@ -151,39 +123,25 @@ runs_leave old new returning command text params count (inl is) h =
 runs_leave old new returning command text params count (inr is) h =
     let same = subst (λ (k : Command). Runs old new returning k text params count) is h in leaves_same old.now new.now same.0.0.now_is
 
-text_leaves : (text : List ℕ) → Creates text → (old new : State) (count : ℕ) → Executes text [] old new (Ok count) → LeavesTables old.now new.now
+text_leaves : (text : List ℕ) → IsText is_create text → (old new : State) (count : ℕ) → Executes text [] old new (Ok count) → LeavesTables old.now new.now
 unfolding ExecutesIn
 text_leaves text p old new count h =
-    let make = makes_table text p old.now.schema h.0 h.1.is in
+    let make = understood_as is_create Makes resolves text p old.now.schema h.0 h.1.is in
     elim (cases_Bool (shows_rows false h.0)) [
       | inl shows ↦ absurd (let e = (rw shows at h.2).0 in cc)
       | inr runs ↦ runs_leave old new h.0.returning h.0.command (text_of text h.0) (timed [] h.0.formats h.1.now) count make (rw runs at h.2)
     ]
 
-season-creates : Creates season_table
+table_texts-create : AllByRecursion (IsText is_create) table_texts
 unfolding understood first everything listing_schema
-season-creates = record { plain = (_, refl); unlisted = (_, refl) }
+table_texts-create =
+    let it : (text : List ℕ) → is_create (first text) → (e : CompileError) × (if_select (compiled listing_schema text) ≡ Err e) → IsText is_create text = λ text kind unlisted. record { kind = kind; unlisted = unlisted } in
+    (it season_table (_, refl) (_, refl), (it answer_table (_, refl) (_, refl), (it allot_table (_, refl) (_, refl), (it phase_table (_, refl) (_, refl), (it lift_table (_, refl) (_, refl), tt)))))
 
-answer-creates : Creates answer_table
-unfolding understood first everything listing_schema
-answer-creates = record { plain = (_, refl); unlisted = (_, refl) }
-
-allot-creates : Creates allot_table
-unfolding understood first everything listing_schema
-allot-creates = record { plain = (_, refl); unlisted = (_, refl) }
-
-phase-creates : Creates phase_table
-unfolding understood first everything listing_schema
-phase-creates = record { plain = (_, refl); unlisted = (_, refl) }
-
-lift-creates : Creates lift_table
-unfolding understood first everything listing_schema
-lift-creates = record { plain = (_, refl); unlisted = (_, refl) }
+each_leaves : (texts : List (List ℕ)) → AllByRecursion (IsText is_create) texts → (old new : State) → RunsEach texts old new → LeavesTables old.now new.now
+each_leaves [] all old new ran = leaves_same old.now new.now (ap (λ (s : State). s.now) (sym ran))
+each_leaves (text ∷ texts) all old new ran = leaves_then old.now ran.0.now new.now (text_leaves text all.0 old ran.0 ran.1 ran.2) (each_leaves texts all.1 ran.0 new ran.3)
 
 -- the five one after another
-pub all_leave : (old new : State) → MakesAll old new → LeavesTables old.now new.now
-all_leave old new m =
-    leaves_then old.now m.s1.now new.now (text_leaves season_table season-creates old m.s1 m.n1 m.season)
-    (leaves_then m.s1.now m.s2.now new.now (text_leaves answer_table answer-creates m.s1 m.s2 m.n2 m.answer)
-    (leaves_then m.s2.now m.s3.now new.now (text_leaves allot_table allot-creates m.s2 m.s3 m.n3 m.allot)
-    (leaves_then m.s3.now m.s4.now new.now (text_leaves phase_table phase-creates m.s3 m.s4 m.n4 m.phase) (text_leaves lift_table lift-creates m.s4 new m.n5 m.lift))))
+pub all_leave : (old new : State) → RunsEach table_texts old new → LeavesTables old.now new.now
+all_leave = each_leaves table_texts table_texts-create

@@ -1,4 +1,5 @@
 pub mod ColumnLemmas
+pub mod CompileLemmas
 pub mod CreateLemmas
 pub mod LayoutLemmas
 pub mod LeaveLemmas

@@ -1,15 +1,13 @@
 -- Whatever the schema is, each text that puts rows leaves it, and so does what a query shows.
-use Rattle.std.proofs.Common.{◌≡◌, ◌+◌, ◌==◌, ◌⊎◌, inl, inr, ℕ, List, [], length, slice_get, false, Option, Some, None, Ok, Err, IsTrue, refl, sym, ap, subst, ◌∙◌}
+use Rattle.std.proofs.Common.{◌≡◌, ◌==◌, ◌⊎◌, inl, inr, ℕ, List, [], length, slice_get, false, Option, Some, None, Ok, Err, IsTrue, refl, sym, ap, subst, ◌∙◌}
 use Rattle.std.proofs.lemmas.Bool.{cases_Bool}
 use Rattle.sqlite.specs.Schema.{Schema}
 use Rattle.sqlite.specs.Command.{Command}
 use Rattle.sqlite.specs.Command.TheVariants.{Select, Insert, InsertOr, Update, Delete, CreateTable, CreateIndex, CreateView, DropTable, DropIndex, DropView, Rows as Values, Begin, Commit, Rollback, Savepoint, Release, RollbackTo, Nothing}
 use Rattle.sqlite.specs.Source.{Source}
-use Rattle.sqlite.specs.Compile.{compiled, first, planned, meaning, command, insert, insert_or, insert_or_abort, new_rows, target, with_command, timed as stamped, small, returning}
-use Rattle.sqlite.specs.Listing.{understood, reads_listing, if_select, listing_schema}
+use Rattle.sqlite.specs.Compile.{first, command, insert, insert_or, insert_or_abort, new_rows, target}
+use Rattle.sqlite.specs.Listing.{understood, listing_schema}
 use Rattle.sqlite_tied.specs.Compute.{everything}
-use Rattle.sqlite_resolve.specs.declared.compiled.Compiled.{Compiled}
-use Rattle.sqlite_resolve.specs.declared.error.CompileError.TheVariants.{NoSuchTable}
 use Rattle.sqlite_resolve.specs.Body.{table_at}
 use Rattle.sqlite_resolve.specs.Given.{upserts}
 use Rattle.sqlite_resolve.specs.Lowering.{Checked, and_then}
@@ -33,7 +31,7 @@ use Rattle.sqlite.specs.Clock.{timed}
 use Rattle.sqlite.specs.State.{State, mode_of, text_of, shows_rows, Runs, ExecutesIn, Executes, Shown, ShowsRows}
 use Rattle.stored_tables.specs.Texts.{answer_text, raise_text, allot_text, part_text, opening_text, cuts_text}
 use Rattle.stored_tables.proofs.PutLemmas.{went, same_value}
-use Rattle.stored_tables.proofs.LeaveLemmas.{then_inv}
+use Rattle.stored_tables.proofs.CompileLemmas.{then_inv, IsText, understood_as}
 
 -- rows are put into a table
 abbrev pub IsWrite : Command → Type 0
@@ -65,38 +63,17 @@ writes schema base name columns rows clauses c h = elim (cases_Bool (length clau
   | inr some ↦ inserts_or schema base name columns rows clauses c (rw some at h)
 ]
 
-abbrev plain_of : Checked Parsed → Type 0
+abbrev pub plain_of : Checked Parsed → Type 0
 plain_of (Ok p) = (name : List ℕ) × (columns : List (List ℕ)) × (rows : Rows) × (clauses : List ast.Upsert) × (p.statement ≡ written.Insert conflict.Abort name columns rows clauses [])
 plain_of (Err e) = ⊥
 
-compiles : (schema : Schema) (text : List ℕ) (c : Compiled) → plain_of (first text) → compiled schema text ≡ Ok c → IsWrite c.command
-unfolding compiled planned meaning command
-compiles schema text c plain h =
-    let one = then_inv (first text) (λ p. and_then (planned schema p) (λ plan. Ok (with_command p plan))) c h in
-    let p : plain_of (Ok one.0) = subst plain_of one.1 plain in
-    let formats = stamped schema one.0.formats one.0.statement in
-    let base = small one.0.names + small formats in
-    let two = then_inv (planned schema one.0) (λ plan. Ok (with_command one.0 plan)) c one.2 in
-    let three = then_inv (meaning schema one.0 base) (λ found. Ok (formats, found)) two.0 two.1 in
-    let four = then_inv (returning schema base one.0.statement) (λ shown. and_then (command schema one.0.formats base one.0.statement) (λ k. Ok (k, shown))) three.0 three.1 in
-    let five = then_inv (command schema one.0.formats base one.0.statement) (λ k. Ok (k, four.0)) three.0 four.2 in
-    let is : command schema one.0.formats base one.0.statement ≡ insert_or_abort schema base p.0 p.1 p.2 p.3 = ap (command schema one.0.formats base) p.4 in
-    let it = writes schema base p.0 p.1 p.2 p.3 five.0 (sym is ∙ five.1) in
-    let same : five.0 ≡ c.command =
-    ap (λ (k : Command × Option Returning). k.0) (same_value five.2) ∙ (ap (λ (k : List (List ℕ) × (Command × Option Returning)). k.1.0) (same_value three.2) ∙ ap (λ (k : Compiled). k.command) (same_value two.2)) in
-    subst IsWrite same it
+resolves : (p : Parsed) → plain_of (Ok p) → (schema : Schema) (base : ℕ) (c : Command) → command schema p.formats base p.statement ≡ Ok c → IsWrite c
+unfolding command
+resolves p plain schema base c h = writes schema base plain.0 plain.1 plain.2 plain.3 c (sym (ap (command schema p.formats base) plain.4) ∙ h)
 
--- a text that puts rows into a table whose name the catalog does not list
-record Puts (text : List ℕ) : Type 0 where
-  plain : plain_of (first text)
-  unlisted : if_select (compiled listing_schema text) ≡ Err NoSuchTable
-
-puts_write : (text : List ℕ) → Puts text → (schema : Schema) (c : Compiled) → understood schema text ≡ Ok c → IsWrite c.command
-unfolding understood
-puts_write text p schema c h = elim (cases_Bool (reads_listing schema text)) [
-  | inl lists ↦ absurd (let e = sym p.unlisted ∙ (rw lists at h) in cc)
-  | inr bare ↦ compiles schema text c p.plain (rw bare at h)
-]
+-- a text that puts rows into a table
+abbrev pub PutsRows : List ℕ → Type 0
+PutsRows = IsText plain_of
 
 concludes : (task : Task) (mode : Mode) (returning : Option Returning) (command : Command) (db : Trees) (done : Tally × Database) → OnRows task mode returning command db (Ok done) → done.1.schema ≡ task.schema
 concludes task mode returning command db done h =
@@ -121,80 +98,38 @@ runs_keep old new returning command text params count (inr it) h =
     let w = subst (λ (k : Command). Runs old new returning k text params count) it.4 h in
     (on_any old.step_limit (mode_of old) params old.now returning (InsertOr it.0 it.1 it.2 it.3) (slice_get old.now.schema.tables it.0) (w.tally, new.now) w.changed, w.shown.was_open)
 
-keeps : (text : List ℕ) → Puts text → (params : Row) (old new : State) (count : ℕ) → Executes text params old new (Ok count) → Keeps old new
+pub put_keeps : (text : List ℕ) → PutsRows text → (params : Row) (old new : State) (count : ℕ) → Executes text params old new (Ok count) → Keeps old new
 unfolding ExecutesIn
-keeps text p params old new count h =
-    let write = puts_write text p old.now.schema h.0 h.1.is in
+put_keeps text p params old new count h =
+    let write = understood_as plain_of IsWrite resolves text p old.now.schema h.0 h.1.is in
     elim (cases_Bool (shows_rows false h.0)) [
       | inl shows ↦ absurd (let e = (rw shows at h.2).0 in cc)
       | inr runs ↦ runs_keep old new h.0.returning h.0.command (text_of text h.0) (timed params h.0.formats h.1.now) count write (rw runs at h.2)
     ]
 
-answer_text-plain : plain_of (first answer_text)
-unfolding first everything
-answer_text-plain = (_, _, _, _, refl)
+pub answer_text-puts : PutsRows answer_text
+unfolding understood first everything listing_schema
+answer_text-puts = record { kind = (_, _, _, _, refl); unlisted = (_, refl) }
 
-answer_text-unlisted : if_select (compiled listing_schema answer_text) ≡ Err NoSuchTable
-unfolding understood everything listing_schema
-answer_text-unlisted = refl
+pub raise_text-puts : PutsRows raise_text
+unfolding understood first everything listing_schema
+raise_text-puts = record { kind = (_, _, _, _, refl); unlisted = (_, refl) }
 
-pub answer_text_keeps : (params : Row) (old new : State) (count : ℕ) → Executes answer_text params old new (Ok count) → Keeps old new
-answer_text_keeps = keeps answer_text (record { plain = answer_text-plain; unlisted = answer_text-unlisted })
+pub allot_text-puts : PutsRows allot_text
+unfolding understood first everything listing_schema
+allot_text-puts = record { kind = (_, _, _, _, refl); unlisted = (_, refl) }
 
-raise_text-plain : plain_of (first raise_text)
-unfolding first everything
-raise_text-plain = (_, _, _, _, refl)
+pub part_text-puts : PutsRows part_text
+unfolding understood first everything listing_schema
+part_text-puts = record { kind = (_, _, _, _, refl); unlisted = (_, refl) }
 
-raise_text-unlisted : if_select (compiled listing_schema raise_text) ≡ Err NoSuchTable
-unfolding understood everything listing_schema
-raise_text-unlisted = refl
+pub opening_text-puts : PutsRows opening_text
+unfolding understood first everything listing_schema
+opening_text-puts = record { kind = (_, _, _, _, refl); unlisted = (_, refl) }
 
-pub raise_text_keeps : (params : Row) (old new : State) (count : ℕ) → Executes raise_text params old new (Ok count) → Keeps old new
-raise_text_keeps = keeps raise_text (record { plain = raise_text-plain; unlisted = raise_text-unlisted })
-
-allot_text-plain : plain_of (first allot_text)
-unfolding first everything
-allot_text-plain = (_, _, _, _, refl)
-
-allot_text-unlisted : if_select (compiled listing_schema allot_text) ≡ Err NoSuchTable
-unfolding understood everything listing_schema
-allot_text-unlisted = refl
-
-pub allot_text_keeps : (params : Row) (old new : State) (count : ℕ) → Executes allot_text params old new (Ok count) → Keeps old new
-allot_text_keeps = keeps allot_text (record { plain = allot_text-plain; unlisted = allot_text-unlisted })
-
-part_text-plain : plain_of (first part_text)
-unfolding first everything
-part_text-plain = (_, _, _, _, refl)
-
-part_text-unlisted : if_select (compiled listing_schema part_text) ≡ Err NoSuchTable
-unfolding understood everything listing_schema
-part_text-unlisted = refl
-
-pub part_text_keeps : (params : Row) (old new : State) (count : ℕ) → Executes part_text params old new (Ok count) → Keeps old new
-part_text_keeps = keeps part_text (record { plain = part_text-plain; unlisted = part_text-unlisted })
-
-opening_text-plain : plain_of (first opening_text)
-unfolding first everything
-opening_text-plain = (_, _, _, _, refl)
-
-opening_text-unlisted : if_select (compiled listing_schema opening_text) ≡ Err NoSuchTable
-unfolding understood everything listing_schema
-opening_text-unlisted = refl
-
-pub opening_text_keeps : (params : Row) (old new : State) (count : ℕ) → Executes opening_text params old new (Ok count) → Keeps old new
-opening_text_keeps = keeps opening_text (record { plain = opening_text-plain; unlisted = opening_text-unlisted })
-
-cuts_text-plain : plain_of (first cuts_text)
-unfolding first everything
-cuts_text-plain = (_, _, _, _, refl)
-
-cuts_text-unlisted : if_select (compiled listing_schema cuts_text) ≡ Err NoSuchTable
-unfolding understood everything listing_schema
-cuts_text-unlisted = refl
-
-pub cuts_text_keeps : (params : Row) (old new : State) (count : ℕ) → Executes cuts_text params old new (Ok count) → Keeps old new
-cuts_text_keeps = keeps cuts_text (record { plain = cuts_text-plain; unlisted = cuts_text-unlisted })
+pub cuts_text-puts : PutsRows cuts_text
+unfolding understood first everything listing_schema
+cuts_text-puts = record { kind = (_, _, _, _, refl); unlisted = (_, refl) }
 
 -- ---- queries
 

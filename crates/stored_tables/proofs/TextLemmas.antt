@@ -1,11 +1,16 @@
 -- What each text means over the five tables: each meaning is found by running the grammar and the resolver on the text.
-use Rattle.std.proofs.Common.{◌≡◌, pos, negsuc, [], ◌∷◌, codes, Bool, true, false, Some, None, Ok, refl}
+use Rattle.std.proofs.Common.{◌≡◌, ℕ, pos, negsuc, List, [], ◌∷◌, take, Bool, true, false, Some, None, Ok, refl}
+use Rattle.std.specs.List.{AllByRecursion}
 use Rattle.sqlite.specs.declared.types.Value.TheVariants.{Null, Int}
-use Rattle.sqlite.specs.Term.{lit, col, op1, op2}
+use Rattle.sqlite.specs.Term.{Term, lit, col, op1, op2}
 use Rattle.sqlite.specs.Query.{Query, inner, counted, end}
 use Rattle.sqlite.specs.Source.TheVariants as source
 use Rattle.sqlite.specs.Command.TheVariants.{Insert, InsertOr, Select, CreateTable, Nothing}
 use Rattle.sqlite.specs.Compile.{table_defined_by}
+use Rattle.sqlite.specs.Change.{created}
+use Rattle.sqlite.specs.Does.{lacks_sequence}
+use Rattle.sqlite.specs.Schema.{Schema}
+use Rattle.sqlite.specs.Table.{Table}
 use Rattle.sqlite_tied.specs.Compute.{everything}
 use Rattle.sqlite.specs.Listing.{understood, reads_listing}
 use Rattle.sqlite.specs.Collation.TheVariants.{Binary}
@@ -14,8 +19,10 @@ use Rattle.sqlite_sql.specs.declared.ops.BinaryOp.TheVariants.{Compare}
 use Rattle.sqlite_sql.specs.declared.ops.UnaryOp.TheVariants.{Not}
 use Rattle.sqlite_sql.specs.declared.ops.CompareOp.TheVariants.{Eq}
 use Rattle.sqlite_schema.specs.declared.command.Conflict.TheVariants.{Abort}
-use Rattle.stored_tables.specs.Layout.{season, answer, allot, phase, lift, stored, first_four}
-use Rattle.stored_tables.specs.Texts.{season_table, answer_table, allot_table, phase_table, lift_table, answer_text, raise_text, allot_text, part_text, opening_text, cuts_text, phase_query, text_query, answers_query, raises_query, allots_query, key_query, any_part, any_answer, any_raise, any_allot}
+use Rattle.sqlite_value.specs.declared.keys.Key.{Key}
+use Rattle.stored_tables.specs.Layout.{season, answer, allot, phase, lift, answer_index, stored, first_four, no_schema}
+use Rattle.stored_tables.specs.Texts.{season_table, answer_table, allot_table, phase_table, lift_table, table_texts, answer_text, raise_text, allot_text, part_text, opening_text, cuts_text, phase_query, text_query, answers_query, raises_query, allots_query, key_query, any_part, any_answer, any_raise, any_allot}
+use Rattle.stored_tables.proofs.QueryLemmas.{of_table}
 
 pub answer_text-is : (strict : Bool) → (command_of (understood (stored strict) answer_text) ≡ Insert 1 (source.Values (lit Null ∷ lit Null ∷ col 0 0 ∷ col 0 1 ∷ col 0 2 ∷ col 0 3 ∷ []) 6)) × IsPlain (understood (stored strict) answer_text)
 unfolding understood everything
@@ -33,219 +40,123 @@ pub part_text-is : (strict : Bool) → (command_of (understood (stored strict) p
 unfolding understood everything
 part_text-is strict = (refl, (refl, refl))
 
-abbrev pub phase_query-means : Query
-phase_query-means = record {
-  from = inner 5 end;
-  filter = [];
-  group = None;
-  project = col 1 0 ∷ col 1 2 ∷ [];
-  distinct = false;
-  collations = [];
-  order = (col 1 0, record { collation = Binary; descending = false }) ∷ [];
-  limit = lit (Int (negsuc 0));
-  offset = lit (Int (pos 0));
-}
+-- ---- queries
 
-pub phase_query-is : (strict : Bool) → (command_of (understood (stored strict) phase_query) ≡ Select (record { lets = []; body = phase_query-means }) (codes "id" ∷ codes "cuts" ∷ [])) × (reads_listing (stored strict) phase_query ≡ false) × IsPlain (understood (stored strict) phase_query)
+abbrev pub two : List Term
+two = col 1 0 ∷ col 1 2 ∷ []
+
+abbrev pub five : List Term
+five = col 1 0 ∷ col 1 2 ∷ col 1 3 ∷ col 1 4 ∷ col 1 5 ∷ []
+
+abbrev pub by_first : List (Term × Key)
+by_first = (col 1 0, record { collation = Binary; descending = false }) ∷ []
+
+-- by round and candidate, rising or falling
+abbrev pub by_key : Bool → List (Term × Key)
+by_key falls = (col 1 1, record { collation = Binary; descending = falls }) ∷ (col 1 2, record { collation = Binary; descending = falls }) ∷ []
+
+abbrev pub all_rows : Term
+all_rows = lit (Int (negsuc 0))
+
+abbrev pub one_row : Term
+one_row = lit (Int (pos 1))
+
+-- the text asks this of the table in this tree
+abbrev pub IsAsked : List ℕ → ℕ → List Term → List (Term × Key) → Term → Type 0
+IsAsked text t project order limit =
+    (strict : Bool) → (names : List (List ℕ)) × (command_of (understood (stored strict) text) ≡ Select (record { lets = []; body = of_table t project order limit }) names) × (reads_listing (stored strict) text ≡ false) × IsPlain (understood (stored strict) text)
+
+pub phase_query-is : IsAsked phase_query 5 two by_first all_rows
 unfolding understood everything
-phase_query-is strict = (refl, refl, (refl, refl))
+phase_query-is strict = (_, refl, refl, (refl, refl))
 
-abbrev pub text_query-means : Query
-text_query-means = record {
-  from = inner 0 end;
-  filter = [];
-  group = None;
-  project = col 1 0 ∷ col 1 2 ∷ [];
-  distinct = false;
-  collations = [];
-  order = (col 1 0, record { collation = Binary; descending = false }) ∷ [];
-  limit = lit (Int (negsuc 0));
-  offset = lit (Int (pos 0));
-}
-
-pub text_query-is : (strict : Bool) → (command_of (understood (stored strict) text_query) ≡ Select (record { lets = []; body = text_query-means }) (codes "part" ∷ codes "bytes" ∷ [])) × (reads_listing (stored strict) text_query ≡ false) × IsPlain (understood (stored strict) text_query)
+pub text_query-is : IsAsked text_query 0 two by_first all_rows
 unfolding understood everything
-text_query-is strict = (refl, refl, (refl, refl))
+text_query-is strict = (_, refl, refl, (refl, refl))
 
-abbrev pub answers_query-means : Query
-answers_query-means = record {
-  from = inner 1 end;
-  filter = [];
-  group = None;
-  project = col 1 0 ∷ col 1 2 ∷ col 1 3 ∷ col 1 4 ∷ col 1 5 ∷ [];
-  distinct = false;
-  collations = [];
-  order = (col 1 0, record { collation = Binary; descending = false }) ∷ [];
-  limit = lit (Int (negsuc 0));
-  offset = lit (Int (pos 0));
-}
-
-pub answers_query-is : (strict : Bool) → (command_of (understood (stored strict) answers_query) ≡ Select (record { lets = []; body = answers_query-means }) (codes "seq" ∷ codes "win" ∷ codes "cand" ∷ codes "turn" ∷ codes "choice" ∷ [])) × (reads_listing (stored strict) answers_query ≡ false) × IsPlain (understood (stored strict) answers_query)
+pub answers_query-is : IsAsked answers_query 1 five by_first all_rows
 unfolding understood everything
-answers_query-is strict = (refl, refl, (refl, refl))
+answers_query-is strict = (_, refl, refl, (refl, refl))
 
-abbrev pub raises_query-means : Query
-raises_query-means = record {
-  from = inner 6 end;
-  filter = [];
-  group = None;
-  project = col 1 0 ∷ col 1 2 ∷ col 1 3 ∷ col 1 4 ∷ col 1 5 ∷ [];
-  distinct = false;
-  collations = [];
-  order = (col 1 0, record { collation = Binary; descending = false }) ∷ [];
-  limit = lit (Int (negsuc 0));
-  offset = lit (Int (pos 0));
-}
-
-pub raises_query-is : (strict : Bool) → (command_of (understood (stored strict) raises_query) ≡ Select (record { lets = []; body = raises_query-means }) (codes "seq" ∷ codes "win" ∷ codes "prog" ∷ codes "step" ∷ codes "seats" ∷ [])) × (reads_listing (stored strict) raises_query ≡ false) × IsPlain (understood (stored strict) raises_query)
+pub raises_query-is : IsAsked raises_query 6 five by_first all_rows
 unfolding understood everything
-raises_query-is strict = (refl, refl, (refl, refl))
+raises_query-is strict = (_, refl, refl, (refl, refl))
 
-abbrev pub allots_query-means : Query
-allots_query-means = record {
-  from = inner 3 end;
-  filter = [];
-  group = None;
-  project = col 1 1 ∷ col 1 2 ∷ col 1 3 ∷ col 1 4 ∷ [];
-  distinct = false;
-  collations = [];
-  order = (col 1 1, record { collation = Binary; descending = false }) ∷ (col 1 2, record { collation = Binary; descending = false }) ∷ [];
-  limit = lit (Int (negsuc 0));
-  offset = lit (Int (pos 0));
-}
-
-pub allots_query-is : (strict : Bool) → (command_of (understood (stored strict) allots_query) ≡ Select (record { lets = []; body = allots_query-means }) (codes "rnd" ∷ codes "cand" ∷ codes "prog" ∷ codes "step" ∷ [])) × (reads_listing (stored strict) allots_query ≡ false) × IsPlain (understood (stored strict) allots_query)
+pub allots_query-is : IsAsked allots_query 3 (col 1 1 ∷ col 1 2 ∷ col 1 3 ∷ col 1 4 ∷ []) (by_key false) all_rows
 unfolding understood everything
-allots_query-is strict = (refl, refl, (refl, refl))
+allots_query-is strict = (_, refl, refl, (refl, refl))
 
-abbrev pub key_query-means : Query
-key_query-means = record {
-  from = inner 3 end;
-  filter = [];
-  group = None;
-  project = col 1 1 ∷ col 1 2 ∷ [];
-  distinct = false;
-  collations = [];
-  order = (col 1 1, record { collation = Binary; descending = true }) ∷ (col 1 2, record { collation = Binary; descending = true }) ∷ [];
-  limit = lit (Int (pos 1));
-  offset = lit (Int (pos 0));
-}
-
-pub key_query-is : (strict : Bool) → (command_of (understood (stored strict) key_query) ≡ Select (record { lets = []; body = key_query-means }) (codes "rnd" ∷ codes "cand" ∷ [])) × (reads_listing (stored strict) key_query ≡ false) × IsPlain (understood (stored strict) key_query)
+pub key_query-is : IsAsked key_query 3 (col 1 1 ∷ col 1 2 ∷ []) (by_key true) one_row
 unfolding understood everything
-key_query-is strict = (refl, refl, (refl, refl))
+key_query-is strict = (_, refl, refl, (refl, refl))
 
-abbrev pub any_part-means : Query
-any_part-means = record {
-  from = inner 0 end;
-  filter = [];
-  group = None;
-  project = col 1 0 ∷ [];
-  distinct = false;
-  collations = [];
-  order = [];
-  limit = lit (Int (pos 1));
-  offset = lit (Int (pos 0));
-}
-
-pub any_part-is : (strict : Bool) → (command_of (understood (stored strict) any_part) ≡ Select (record { lets = []; body = any_part-means }) (codes "part" ∷ [])) × (reads_listing (stored strict) any_part ≡ false) × IsPlain (understood (stored strict) any_part)
+pub any_part-is : IsAsked any_part 0 (col 1 0 ∷ []) [] one_row
 unfolding understood everything
-any_part-is strict = (refl, refl, (refl, refl))
+any_part-is strict = (_, refl, refl, (refl, refl))
 
-abbrev pub any_answer-means : Query
-any_answer-means = record {
-  from = inner 1 end;
-  filter = [];
-  group = None;
-  project = col 1 0 ∷ [];
-  distinct = false;
-  collations = [];
-  order = [];
-  limit = lit (Int (pos 1));
-  offset = lit (Int (pos 0));
-}
-
-pub any_answer-is : (strict : Bool) → (command_of (understood (stored strict) any_answer) ≡ Select (record { lets = []; body = any_answer-means }) (codes "seq" ∷ [])) × (reads_listing (stored strict) any_answer ≡ false) × IsPlain (understood (stored strict) any_answer)
+pub any_answer-is : IsAsked any_answer 1 (col 1 0 ∷ []) [] one_row
 unfolding understood everything
-any_answer-is strict = (refl, refl, (refl, refl))
+any_answer-is strict = (_, refl, refl, (refl, refl))
 
-abbrev pub any_raise-means : Query
-any_raise-means = record {
-  from = inner 6 end;
-  filter = [];
-  group = None;
-  project = col 1 0 ∷ [];
-  distinct = false;
-  collations = [];
-  order = [];
-  limit = lit (Int (pos 1));
-  offset = lit (Int (pos 0));
-}
-
-pub any_raise-is : (strict : Bool) → (command_of (understood (stored strict) any_raise) ≡ Select (record { lets = []; body = any_raise-means }) (codes "seq" ∷ [])) × (reads_listing (stored strict) any_raise ≡ false) × IsPlain (understood (stored strict) any_raise)
+pub any_raise-is : IsAsked any_raise 6 (col 1 0 ∷ []) [] one_row
 unfolding understood everything
-any_raise-is strict = (refl, refl, (refl, refl))
+any_raise-is strict = (_, refl, refl, (refl, refl))
 
-abbrev pub any_allot-means : Query
-any_allot-means = record {
-  from = inner 3 end;
-  filter = [];
-  group = None;
-  project = col 1 1 ∷ [];
-  distinct = false;
-  collations = [];
-  order = [];
-  limit = lit (Int (pos 1));
-  offset = lit (Int (pos 0));
-}
-
-pub any_allot-is : (strict : Bool) → (command_of (understood (stored strict) any_allot) ≡ Select (record { lets = []; body = any_allot-means }) (codes "rnd" ∷ [])) × (reads_listing (stored strict) any_allot ≡ false) × IsPlain (understood (stored strict) any_allot)
+pub any_allot-is : IsAsked any_allot 3 (col 1 1 ∷ []) [] one_row
 unfolding understood everything
-any_allot-is strict = (refl, refl, (refl, refl))
+any_allot-is strict = (_, refl, refl, (refl, refl))
 
-pub season-there : (strict : Bool) → (command_of (understood (stored strict) season_table) ≡ Nothing) × IsPlain (understood (stored strict) season_table)
+-- ---- tables
+
+-- over this schema the text finds its table
+abbrev pub IsThere : Schema → List ℕ → Type 0
+IsThere schema text = (command_of (understood schema text) ≡ Nothing) × IsPlain (understood schema text)
+
+pub all-there : (strict : Bool) → AllByRecursion (IsThere (stored strict)) table_texts
 unfolding understood everything
-season-there strict = (refl, (refl, refl))
+all-there strict = ((refl, (refl, refl)), ((refl, (refl, refl)), ((refl, (refl, refl)), ((refl, (refl, refl)), ((refl, (refl, refl)), tt)))))
 
-pub season-defined : table_defined_by season_table ≡ Ok (record (season true) { tree = 0 })
-unfolding everything
-season-defined = refl
-
-pub answer-there : (strict : Bool) → (command_of (understood (stored strict) answer_table) ≡ Nothing) × IsPlain (understood (stored strict) answer_table)
+pub four-there : (strict : Bool) → AllByRecursion (IsThere (first_four strict)) (take 4 table_texts)
 unfolding understood everything
-answer-there strict = (refl, (refl, refl))
+four-there strict = ((refl, (refl, refl)), ((refl, (refl, refl)), ((refl, (refl, refl)), ((refl, (refl, refl)), tt))))
 
-pub answer-defined : table_defined_by answer_table ≡ Ok (record (answer true) { tree = 0 })
-unfolding everything
-answer-defined = refl
+-- the schemas on the way to the first four
+abbrev pub front_1 : Schema
+front_1 = record no_schema { tables = season true ∷ [] }
 
-pub allot-there : (strict : Bool) → (command_of (understood (stored strict) allot_table) ≡ Nothing) × IsPlain (understood (stored strict) allot_table)
+abbrev pub front_2 : Schema
+front_2 = record { tables = season true ∷ answer true ∷ []; indexes = answer_index ∷ []; views = [] }
+
+abbrev pub front_3 : Schema
+front_3 = record (stored true) { tables = season true ∷ answer true ∷ allot true ∷ [] }
+
+-- over this schema the text makes this table
+pub record IsMade (schema : Schema) (table : Table) (text : List ℕ) : Type 0 where
+  pub defined : table_defined_by text ≡ Ok table
+  pub creates : command_of (understood schema text) ≡ CreateTable
+  pub whole : statement_of text (understood schema text) ≡ text
+  pub plain : IsPlain (understood schema text)
+  pub alone : lacks_sequence (created schema table) ≡ false
+
+pub season-made : IsMade no_schema (record (season true) { tree = 0 }) season_table
 unfolding understood everything
-allot-there strict = (refl, (refl, refl))
+season-made = record { defined = refl; creates = refl; whole = refl; plain = (refl, refl); alone = refl }
 
-pub allot-defined : table_defined_by allot_table ≡ Ok (record (allot true) { tree = 0 })
-unfolding everything
-allot-defined = refl
-
-pub phase-there : (strict : Bool) → (command_of (understood (stored strict) phase_table) ≡ Nothing) × IsPlain (understood (stored strict) phase_table)
+pub answer-made : IsMade front_1 (record (answer true) { tree = 0 }) answer_table
 unfolding understood everything
-phase-there strict = (refl, (refl, refl))
+answer-made = record { defined = refl; creates = refl; whole = refl; plain = (refl, refl); alone = refl }
 
-pub phase-defined : table_defined_by phase_table ≡ Ok (record (phase true) { tree = 0 })
-unfolding everything
-phase-defined = refl
-
-pub lift-there : (strict : Bool) → (command_of (understood (stored strict) lift_table) ≡ Nothing) × IsPlain (understood (stored strict) lift_table)
+pub allot-made : IsMade front_2 (record (allot true) { tree = 0 }) allot_table
 unfolding understood everything
-lift-there strict = (refl, (refl, refl))
+allot-made = record { defined = refl; creates = refl; whole = refl; plain = (refl, refl); alone = refl }
 
-pub lift-defined : table_defined_by lift_table ≡ Ok (record lift { tree = 0 })
-unfolding everything
-lift-defined = refl
-
-pub lift-made : (strict : Bool) → (command_of (understood (first_four strict) lift_table) ≡ CreateTable) × (statement_of lift_table (understood (first_four strict) lift_table) ≡ lift_table) × IsPlain (understood (first_four strict) lift_table)
+pub phase-made : IsMade front_3 (record (phase true) { tree = 0 }) phase_table
 unfolding understood everything
-lift-made strict = (refl, refl, (refl, refl))
+phase-made = record { defined = refl; creates = refl; whole = refl; plain = (refl, refl); alone = refl }
+
+pub lift-made : (strict : Bool) → IsMade (first_four strict) (record lift { tree = 0 }) lift_table
+unfolding understood everything
+lift-made strict = record { defined = refl; creates = refl; whole = refl; plain = (refl, refl); alone = refl }
 
 -- the row that is there gets the number of cuts that was to be put
 abbrev pub mends : Query

@@ -25,6 +25,10 @@ phase_table = codes "CREATE TABLE IF NOT EXISTS phase (id INTEGER PRIMARY KEY, c
 abbrev pub lift_table : List ℕ
 lift_table = codes "CREATE TABLE IF NOT EXISTS lift (seq INTEGER PRIMARY KEY, win INTEGER NOT NULL, prog INTEGER NOT NULL, step INTEGER NOT NULL, seats INTEGER NOT NULL) STRICT"
 
+-- all five, in this order
+abbrev pub table_texts : List (List ℕ)
+table_texts = season_table ∷ answer_table ∷ allot_table ∷ phase_table ∷ lift_table ∷ []
+
 -- ---- what is put
 
 abbrev pub answer_text : List ℕ

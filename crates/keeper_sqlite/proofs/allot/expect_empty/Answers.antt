@@ -1,9 +1,10 @@
 use Rattle.keeper_sqlite.proofs.MeaningLemmas.{none_stand}
 use Rattle.sqlite.specs.Held.{state}
 use Rattle.keeper_sqlite.specs.Kept.{any_allot}
-use Rattle.stored_tables.proofs.ShowLemmas.{shows_no_allot}
+use Rattle.stored_tables.proofs.ShowLemmas.{shows_none}
+use Rattle.stored_tables.proofs.TextLemmas.{any_allot-is}
 use Rattle.keeper_sqlite.proofs.allot.expect_empty.Goals as goal
 
 pub returns-clause-none : goal.returns-clause-none
 returns-clause-none g c = λ strict clean has.
-    none_stand g.S.Store any_allot 3 c.args.tx.now.conn.now c.expect_none.new.tx.conn.now c.expect_none.result (shows_no_allot strict (state g.S.Store c.args.tx.now.conn.now) (state g.S.Store c.expect_none.new.tx.conn.now) has) c.expect_none.ensures.acts.done clean
+    none_stand g.S.Store any_allot 3 c.args.tx.now.conn.now c.expect_none.new.tx.conn.now c.expect_none.result (shows_none any_allot _ _ any_allot-is strict (state g.S.Store c.args.tx.now.conn.now) (state g.S.Store c.expect_none.new.tx.conn.now) has) c.expect_none.ensures.acts.done clean
