@@ -1,5 +1,5 @@
 -- Calls that follow one another in a transaction.
-use Rattle.std.proofs.Common.{◌≡◌, ◌+◌, ◌<◌, ◌≤◌, ◌^◌, ◌∙◌, ap, append-nil, append_assoc, ℕ, zero, suc, slice_get, take, drop, get_or, length, false, List, [], ◌∷◌, ◌++◌, Option, Some, None, Result, Ok, Err, IsTrue, IfOk, OnOk, sym, subst, refl, inl, inr, arith}
+use Rattle.std.proofs.Common.{◌≡◌, ◌+◌, ◌<◌, ◌≤◌, ◌^◌, ◌∙◌, ap, append-nil, append_assoc, ℕ, zero, suc, slice_get, take, drop, map, get_or, length, false, List, [], ◌∷◌, ◌++◌, Option, Some, None, Result, Ok, Err, IsTrue, IfOk, OnOk, sym, subst, refl, inl, inr, arith}
 use Rattle.std.proofs.lemmas.Bool.{cases_Bool}
 use Rattle.std.proofs.lemmas.List.{drop_more, take_more}
 use Rattle.std.specs.List.{AllByRecursion, AllZip, concat}
@@ -17,7 +17,7 @@ use Rattle.kept_rows.specs.declared.rows.Kept.{Kept}
 use Rattle.keeper_sqlite.specs.declared.rising.Key.{Key}
 use Rattle.keeper_sqlite.specs.Columns.{IsKeyRow, TellsKey, IsPhaseRow, IsPartRow, IsAnswerRow, IsRaiseRow, IsAllotRow, TellsPhase}
 use Rattle.keeper_sqlite.specs.Commits.{CommitsNothing}
-use Rattle.keeper_sqlite.specs.Kept.{Call, DidAll, TellsRecords, TellsText, TellsTables, TellsKept, text_query, answers_query, raises_query, allots_query, TellsPhaseOf, MakesCut, ToldPhase, AreAbove, PutsText, seat_calls, allot_calls, allot_values, phase_query, part_text, part_values, part_calls, text_calls, season_calls, unanswered_calls, any_row_queries, opening_text, opening_values}
+use Rattle.keeper_sqlite.specs.Kept.{Call, DidAll, TellsRecords, TellsText, TellsTables, TellsKept, text_query, answers_query, raises_query, allots_query, TellsPhaseOf, MakesCut, ToldPhase, AreAbove, PutsText, seat_calls, phase_query, part_text, part_values, part_calls, text_calls, season_calls, unanswered_calls, any_row_queries, opening_text, opening_values}
 use Rattle.keeper_sqlite.specs.Kept.Call.{Runs, Places, Asks, Readies}
 use Rattle.keeper_sqlite.specs.declared.halt.Halt.{Halt}
 
@@ -77,13 +77,11 @@ leaves_fewer g all left call old mid next nothing leaves made clean last done =
     let was : HasCleanDisk (state g mid) = omega (arith, nothing.survives.clean) in
     leaves was last (did_then g (call ∷ []) left mid next last (made clean) done)
 
--- one more seat is put
-pub seat_put : {S : Type 0} (g : Ghosts S) (text : List ℕ) (rows : List AllotRow) (i : ℕ) (d : AllotRow) (old mid next : Held S) → i < length rows → CommitsNothing (state g mid) (state g next)
-    → Leaves g (allot_calls text rows) (allot_calls text (drop i rows)) old mid → (HasCleanDisk (state g next) → DidAll g (Runs text (allot_values (get_or rows i d)) ∷ []) mid next)
-    → Leaves g (allot_calls text rows) (allot_calls text (drop (i + 1) rows)) old next
-seat_put {S} g text rows i d old mid next within nothing leaves made =
-    leaves_fewer g (allot_calls text rows) (allot_calls text (drop (i + 1) rows)) (Runs text (allot_values (get_or rows i d))) old mid next nothing
-    (subst (λ (left : List AllotRow). Leaves g (allot_calls text rows) (allot_calls text left) old mid) (drop_more rows i d within) leaves) made
+-- one more of the calls for a list is made
+pub one_made : {S A : Type 0} (g : Ghosts S) (f : A → Call) (all : List A) (i : ℕ) (d : A) (old mid next : Held S) → i < length all → CommitsNothing (state g mid) (state g next)
+    → Leaves g (map f all) (map f (drop i all)) old mid → (HasCleanDisk (state g next) → DidAll g (f (get_or all i d) ∷ []) mid next) → Leaves g (map f all) (map f (drop (i + 1) all)) old next
+one_made {A = A} g f all i d old mid next within nothing leaves made =
+    leaves_fewer g (map f all) (map f (drop (i + 1) all)) (f (get_or all i d)) old mid next nothing (subst (λ (left : List A). Leaves g (map f all) (map f left) old mid) (drop_more all i d within) leaves) made
 
 -- one more seat fits
 pub fit_more : (rows : List AllotRow) (i : ℕ) (d : AllotRow) → i < length rows → AllByRecursion AllotFits (take i rows) → AllotFits (get_or rows i d) → AllByRecursion AllotFits (take (i + 1) rows)

@@ -29,8 +29,7 @@ use Rattle.stored_tables.specs.Told.{told, told_if, is_bare, records_of, tables_
 use Rattle.stored_tables.specs.Rows.{cuts_of}
 use Rattle.stored_tables.proofs.TellLemmas.{text_same, answers_same, raises_same, allots_same}
 use Rattle.stored_tables.proofs.LayoutLemmas.{layout}
-use Rattle.sqlite.specs.State.{Executes}
-use Rattle.keeper_sqlite.specs.Kept.{DidAll, plain_calls, table_texts, lift_table, Keeps, Makes, MadeBy, MakesCut, PutsText, Ran, season_calls, answer_text, answer_values, raise_text, raise_values}
+use Rattle.keeper_sqlite.specs.Kept.{DidAll, plain_calls, table_texts, Keeps, Makes, MadeBy, MakesCut, PutsText, Ran, season_calls, answer_text, answer_values, raise_text, raise_values}
 use Rattle.keeper_sqlite.specs.declared.transactions.Change.{Change}
 use Rattle.keeper_sqlite.specs.declared.transactions.Change.TheVariants as change
 use Rattle.keeper_sqlite.proofs.ToldLemmas.{put_told, answer_made, raise_made, season_made, cut_made_told, answer_keeps, raise_keeps, season_keeps, cut_keeps}
@@ -198,7 +197,7 @@ module _ {S : Type 0} (g : Ghosts S) where
 
   -- ---- what is visible once the tables were made
 
-  runs_each : (texts : List (List ℕ)) (old last : Held S) → DidAll g (plain_calls texts) old last → RunsEach texts (state g old) (state g last)
+  pub runs_each : (texts : List (List ℕ)) (old last : Held S) → DidAll g (plain_calls texts) old last → RunsEach texts (state g old) (state g last)
   runs_each [] old last d = ap (state g) d
   runs_each (text ∷ texts) old last d = (state g d.0, d.1.count, d.1.ran, runs_each texts d.0 last d.2)
 

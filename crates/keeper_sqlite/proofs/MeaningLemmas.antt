@@ -1,10 +1,10 @@
 -- What the text of each function does to its one table, and what it shows of it.
 use Rattle.std.proofs.Common.{◌≡◌, ◌+◌, ◌<◌, ◌^◌, ◌∙◌, ℕ, pos, Bool, true, List, [], ◌∷◌, ◌++◌, Option, Some, None, Result, Ok, Err, IfOk, OnOk, slice_get, ap, sym, subst, refl}
-use Rattle.std.specs.List.{concat}
+use Rattle.std.specs.List.{AllByRecursion, concat}
 use Rattle.sqlite.specs.Store.{Ghosts}
 use Rattle.sqlite.specs.Order.{Row, column}
 use Rattle.sqlite.specs.Effect.{Database}
-use Rattle.sqlite.specs.State.{HasCleanDisk, Shown, Executes}
+use Rattle.sqlite.specs.State.{HasCleanDisk, Executes}
 use Rattle.sqlite.specs.Held.{Held, state}
 use Rattle.sqlite.specs.declared.types.Value.TheVariants.{Int}
 use Rattle.kept_rows.specs.declared.rows.AnswerRow.{AnswerRow}
@@ -25,17 +25,16 @@ use Rattle.stored_tables.proofs.SeatLemmas.{seats_rise}
 use Rattle.stored_tables.proofs.TableLemmas.{puts_answer, puts_raise, puts_allot, puts_part}
 use Rattle.stored_tables.proofs.PhaseLemmas.{puts_cuts, opens_phase}
 use Rattle.stored_tables.proofs.ShowLemmas.{IsLastKey, shows_phase, shows_key, shows_answers, shows_raises, shows_allots, shows_parts, phase_stands}
-use Rattle.stored_tables.proofs.CreateLemmas.{makes_none}
-use Rattle.stored_tables.proofs.TextLemmas.{IsThere}
+use Rattle.stored_tables.proofs.CreateLemmas.{all_stand}
 use Rattle.keeper_sqlite.specs.Columns.{IsAnswerRow, IsRaiseRow, IsAllotRow, IsPartRow, TellsKey}
 use Rattle.keeper_sqlite.specs.Rising.{key_after, key_of}
 use Rattle.keeper_sqlite.specs.declared.halt.Halt.{Halt}
 use Rattle.keeper_sqlite.specs.declared.rising.Key.{Key}
-use Rattle.keeper_sqlite.specs.Kept.{Ran, DidAll, TellsRecords, TellsText, TellsPhaseOf, answer_text, answer_values, raise_text, raise_values, allot_text, allot_values, part_text, part_values, cuts_text, cuts_values, opening_text, opening_values, phase_query, key_query, answers_query, raises_query, allots_query, text_query}
+use Rattle.keeper_sqlite.specs.Kept.{Ran, DidAll, plain_calls, table_texts, unanswered_calls, any_row_queries, TellsRecords, TellsText, TellsPhaseOf, answer_text, answer_values, raise_text, raise_values, allot_text, allot_values, part_text, part_values, cuts_text, cuts_values, opening_text, opening_values, phase_query, key_query, answers_query, raises_query, allots_query, text_query}
 use Rattle.keeper_sqlite.specs.Kept.Call.{Runs, Places, Asks}
 use Rattle.keeper_sqlite.proofs.LookLemmas.{rising_is}
-use Rattle.keeper_sqlite.proofs.KeeperLemmas.{told_has}
-use Rattle.keeper_sqlite.proofs.ToldLemmas.{shown_of}
+use Rattle.keeper_sqlite.proofs.KeeperLemmas.{told_has, runs_each}
+use Rattle.keeper_sqlite.proofs.ToldLemmas.{shown_of, any_asked, none_asked}
 
 module _ {S : Type 0} (g : Ghosts S) where
   pub ran_once : (text : List ℕ) (values : Row) (old new : Held S) → DidAll g (Runs text values ∷ []) old new → Ran g text values old new
@@ -82,18 +81,18 @@ module _ {S : Type 0} (g : Ghosts S) where
   phase_opened strict old new (Ok none) has ran clean =
       let did = ran clean in opens_phase strict (state g old) (state g new) has (subst (λ (h : Held S). Executes opening_text opening_values (state g old) (state g h) (Ok 1)) did.2 did.1)
 
-  -- a table that exists is not made
-  pub table_stands : (strict : Bool) (text : List ℕ) (old new : Held S) (r : Result (Unit {0}) Halt) → IsThere (stored strict) text → old.schema ≡ stored strict
-      → (HasCleanDisk (state g new) → OnOk r (DidAll g (Runs text [] ∷ []) old new)) → HasCleanDisk (state g new) → OnOk r ((state g new).now ≡ (state g old).now)
-  table_stands strict text old new r there has =
-      put_by text [] (λ a b. b ≡ a) old new r (λ count ran. makes_none (stored strict) text (state g old) (state g new) count there has ran)
-
   -- ---- what is visible
 
-  pub none_stand : (text : List ℕ) (t : ℕ) (old new : Held S) (r : Result (Unit {0}) Halt) → (Shown text [] (state g old) (state g new) [] → (state g old).now.trees t ≡ [])
-      → (HasCleanDisk (state g new) → OnOk r (DidAll g (Asks text [] ∷ []) old new)) → HasCleanDisk (state g new) → OnOk r ((state g old).now.trees t ≡ [])
-  none_stand text t old new (Err halt) shows asked clean = tt
-  none_stand text t old new (Ok none) shows asked clean = shows (shown_of g text [] old new (asked clean))
+  -- tables that exist are not made
+  pub tables_stand : (strict : Bool) (old new : Held S) (r : Result (Unit {0}) Halt) → old.schema ≡ stored strict → (HasCleanDisk (state g new) → OnOk r (DidAll g (plain_calls table_texts) old new)) → HasCleanDisk (state g new)
+      → OnOk r ((state g new).now ≡ (state g old).now)
+  tables_stand strict old new (Err halt) has ran clean = tt
+  tables_stand strict old new (Ok none) has ran clean = all_stand strict (state g old) (state g new) has (runs_each g table_texts old new (ran clean))
+
+  pub none_stand : (strict : Bool) (old new : Held S) (r : Result (Unit {0}) Halt) → old.schema ≡ stored strict → (HasCleanDisk (state g new) → OnOk r (DidAll g (unanswered_calls any_row_queries) old new)) → HasCleanDisk (state g new)
+      → OnOk r (AllByRecursion (λ t. (state g old).now.trees t ≡ []) (0 ∷ 1 ∷ 6 ∷ 3 ∷ []))
+  none_stand strict old new (Err halt) has asked clean = tt
+  none_stand strict old new (Ok none) has asked clean = (none_asked g strict any_row_queries (0 ∷ 1 ∷ 6 ∷ 3 ∷ []) [] old new (any_asked g) has (asked clean)).2
 
   pub answers_stand : (strict : Bool) (old new : Held S) (r : Result (List AnswerRow) Halt) → old.schema ≡ stored strict → (HasCleanDisk (state g new) → IfOk r (λ records. TellsRecords g IsAnswerRow answers_query records old new))
       → HasCleanDisk (state g new) → IfOk r (λ records. (all : List AnswerRow) → answers_in (state g old).now.trees ≡ Some all → all ≡ records)

@@ -1,5 +1,5 @@
 -- Why calls that follow one another did not complete.
-use Rattle.std.proofs.Common.{◌≡◌, ◌≢◌, ◌+◌, ◌<◌, ◌≤◌, ◌^◌, ◌∙◌, inl, inr, ap, append_assoc, ℕ, get_or, drop, length, false, List, [], ◌∷◌, ◌++◌, Result, Ok, Err, IsTrue, IfErr, sym, subst, refl, arith}
+use Rattle.std.proofs.Common.{◌≡◌, ◌≢◌, ◌+◌, ◌<◌, ◌≤◌, ◌^◌, ◌∙◌, inl, inr, ap, append_assoc, ℕ, get_or, drop, map, length, false, List, [], ◌∷◌, ◌++◌, Result, Ok, Err, IsTrue, IfErr, sym, subst, refl, arith}
 use Rattle.std.proofs.lemmas.Bool.{cases_Bool}
 use Rattle.std.proofs.lemmas.List.{drop_more}
 use Rattle.std.specs.List.{concat}
@@ -10,10 +10,9 @@ use Rattle.sqlite.specs.Held.{Held, state}
 use Rattle.sqlite.specs.declared.error.Error.{Error}
 use Rattle.sqlite.specs.declared.error.Error.TheVariants.{SqliteFailure}
 use Rattle.sqlite.specs.declared.error.ErrorCode.TheVariants.{TransactionState}
-use Rattle.kept_rows.specs.declared.rows.AllotRow.{AllotRow}
 use Rattle.keeper_sqlite.specs.Halts.{WantsMemory}
 use Rattle.keeper_sqlite.specs.Commits.{CommitsNothing}
-use Rattle.keeper_sqlite.specs.Kept.{Call, DidAll, allot_calls, allot_values, part_text, part_values, part_calls, text_calls, season_calls, unanswered_calls, any_row_queries, opening_text, opening_values}
+use Rattle.keeper_sqlite.specs.Kept.{Call, DidAll, part_text, part_values, part_calls, text_calls, season_calls, unanswered_calls, any_row_queries, opening_text, opening_values}
 use Rattle.keeper_sqlite.specs.Kept.Call.{Runs, Places, Asks, Readies}
 use Rattle.keeper_sqlite.specs.Stops.{IsRefusal, RefusesToRun, RefusesToTell, StopsIn, StopsText, LosesRows}
 use Rattle.keeper_sqlite.specs.declared.halt.Halt.{Halt}
@@ -106,7 +105,7 @@ module _ {S : Type 0} (g : Ghosts S) where
       let first = ready was in
       stops_then (Readies text ∷ []) (calls text) halt old mid new first.1 (subst (λ (t : List ℕ). StopsIn g (calls t) halt mid new) first.0 (lost clean))
 
-  -- ---- seats
+  -- ---- the calls for a list
 
   -- if the calls that are left stop, all do
   abbrev pub LeavesStop : List Call → List Call → Held S → Held S → Type 0
@@ -118,21 +117,18 @@ module _ {S : Type 0} (g : Ghosts S) where
       let was : HasCleanDisk (state g mid) = omega (arith, nothing.survives.clean) in
       leaves was halt last (stops_then (call ∷ []) left halt mid next last (made clean) s)
 
-  seat_left : (text : List ℕ) (rows : List AllotRow) (i : ℕ) (d : AllotRow) (old mid : Held S) → i < length rows → LeavesStop (allot_calls text rows) (allot_calls text (drop i rows)) old mid
-      → LeavesStop (allot_calls text rows) (Runs text (allot_values (get_or rows i d)) ∷ allot_calls text (drop (i + 1) rows)) old mid
-  seat_left text rows i d old mid within = subst (λ (left : List AllotRow). LeavesStop (allot_calls text rows) (allot_calls text left) old mid) (drop_more rows i d within)
+  one_left : {A : Type 0} (f : A → Call) (all : List A) (i : ℕ) (d : A) (old mid : Held S) → i < length all → LeavesStop (map f all) (map f (drop i all)) old mid → LeavesStop (map f all) (f (get_or all i d) ∷ map f (drop (i + 1) all)) old mid
+  one_left {A} f all i d old mid within = subst (λ (left : List A). LeavesStop (map f all) (map f left) old mid) (drop_more all i d within)
 
-  pub seat_stop : (text : List ℕ) (rows : List AllotRow) (i : ℕ) (d : AllotRow) (old mid next : Held S) → i < length rows → CommitsNothing (state g mid) (state g next)
-      → LeavesStop (allot_calls text rows) (allot_calls text (drop i rows)) old mid → (HasCleanDisk (state g next) → DidAll g (Runs text (allot_values (get_or rows i d)) ∷ []) mid next)
-      → LeavesStop (allot_calls text rows) (allot_calls text (drop (i + 1) rows)) old next
-  seat_stop text rows i d old mid next within nothing leaves made =
-      stop_fewer (allot_calls text rows) (allot_calls text (drop (i + 1) rows)) (Runs text (allot_values (get_or rows i d))) old mid next nothing (seat_left text rows i d old mid within leaves) made
+  pub one_stop : {A : Type 0} (f : A → Call) (all : List A) (i : ℕ) (d : A) (old mid next : Held S) → i < length all → CommitsNothing (state g mid) (state g next) → LeavesStop (map f all) (map f (drop i all)) old mid
+      → (HasCleanDisk (state g next) → DidAll g (f (get_or all i d) ∷ []) mid next) → LeavesStop (map f all) (map f (drop (i + 1) all)) old next
+  one_stop f all i d old mid next within nothing leaves made = stop_fewer (map f all) (map f (drop (i + 1) all)) (f (get_or all i d)) old mid next nothing (one_left f all i d old mid within leaves) made
 
-  pub seat_lost : (text : List ℕ) (rows : List AllotRow) (i : ℕ) (d : AllotRow) (halt : Halt) (old mid new : Held S) → i < length rows → CommitsNothing (state g mid) (state g new)
-      → LeavesStop (allot_calls text rows) (allot_calls text (drop i rows)) old mid → HasCleanDisk (state g new) → StopsIn g (Runs text (allot_values (get_or rows i d)) ∷ []) halt mid new → StopsIn g (allot_calls text rows) halt old new
-  seat_lost text rows i d halt old mid new within nothing leaves clean s =
+  pub one_lost : {A : Type 0} (f : A → Call) (all : List A) (i : ℕ) (d : A) (halt : Halt) (old mid new : Held S) → i < length all → CommitsNothing (state g mid) (state g new) → LeavesStop (map f all) (map f (drop i all)) old mid
+      → HasCleanDisk (state g new) → StopsIn g (f (get_or all i d) ∷ []) halt mid new → StopsIn g (map f all) halt old new
+  one_lost f all i d halt old mid new within nothing leaves clean s =
       let was : HasCleanDisk (state g mid) = omega (arith, nothing.survives.clean) in
-      seat_left text rows i d old mid within leaves was halt new (stops_more (Runs text (allot_values (get_or rows i d)) ∷ []) (allot_calls text (drop (i + 1) rows)) halt mid new s)
+      one_left f all i d old mid within leaves was halt new (stops_more (f (get_or all i d) ∷ []) (map f (drop (i + 1) all)) halt mid new s)
 
   -- ---- parts
 

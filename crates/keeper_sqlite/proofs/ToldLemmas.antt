@@ -1,5 +1,5 @@
 -- What is visible of a store once a change was made in a transaction.
-use Rattle.std.proofs.Common.{◌≡◌, ◌+◌, ◌⊎◌, inl, inr, ℕ, pos, Bool, true, ◌&&◌, IsTrue, List, [], ◌∷◌, ◌++◌, fold, append-nil, append_assoc, slice_get, Option, Some, None, option_map, option_and_then, Ok, refl, sym, ap, ap₂, subst, ◌∙◌}
+use Rattle.std.proofs.Common.{◌≡◌, ◌+◌, inl, inr, ℕ, pos, Bool, true, ◌&&◌, IsTrue, List, [], ◌∷◌, ◌++◌, fold, append-nil, append_assoc, slice_get, Option, Some, None, option_map, option_and_then, refl, sym, ap, ap₂, subst, ◌∙◌}
 use Rattle.std.specs.List.{AllByRecursion, AllZip}
 use Rattle.std.proofs.lemmas.Bool.{cases_Bool}
 use Rattle.sqlite.specs.declared.types.Value.TheVariants.{Int}
@@ -8,7 +8,7 @@ use Rattle.sqlite.specs.Order.{Row, column}
 use Rattle.sqlite.specs.Tree.{Trees}
 use Rattle.sqlite.specs.Term.{Term}
 use Rattle.sqlite.specs.Effect.{Database}
-use Rattle.sqlite.specs.State.{State, Executes, Shown}
+use Rattle.sqlite.specs.State.{State, Shown}
 use Rattle.sqlite.specs.Held.{Held, state}
 use Rattle.kept_rows.specs.Tables.{Tables, Untold, NoSeason, Records, with_answer, with_raise, with_cut, IsFound, opening_records}
 use Rattle.kept_rows.specs.declared.rows.AnswerRow.{AnswerRow}
@@ -240,14 +240,14 @@ module _ {S : Type 0} (g : Ghosts S) where
       )
 
   -- each text asks for one row of the table in its tree
-  abbrev AreAsked : List (List ℕ) → List ℕ → Type 0
+  abbrev pub AreAsked : List (List ℕ) → List ℕ → Type 0
   AreAsked = AllZip (λ text t. (project : List Term) × IsAsked text t project [] one_row)
 
-  any_asked : AreAsked any_row_queries (0 ∷ 1 ∷ 6 ∷ 3 ∷ [])
+  pub any_asked : AreAsked any_row_queries (0 ∷ 1 ∷ 6 ∷ 3 ∷ [])
   any_asked = ((_, any_part-is), ((_, any_answer-is), ((_, any_raise-is), ((_, any_allot-is), tt))))
 
   -- if no text shows a row, none of these tables has one
-  none_asked : (strict : Bool) (texts : List (List ℕ)) (trees : List ℕ) (rest : List Call) (old last : Held S) → AreAsked texts trees → old.schema ≡ stored strict → DidAll g (unanswered_calls texts ++ rest) old last
+  pub none_asked : (strict : Bool) (texts : List (List ℕ)) (trees : List ℕ) (rest : List Call) (old last : Held S) → AreAsked texts trees → old.schema ≡ stored strict → DidAll g (unanswered_calls texts ++ rest) old last
       → (mid : Held S) × ((state g mid).now ≡ (state g old).now) × AllByRecursion (λ t. (state g old).now.trees t ≡ []) trees × DidAll g rest mid last
   none_asked strict [] [] rest old last asked has did = (old, refl, tt, did)
   none_asked strict [] (t ∷ trees) rest old last asked has did = absurd asked

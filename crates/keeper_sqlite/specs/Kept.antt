@@ -15,6 +15,8 @@ pub use Rattle.stored_tables.specs.Texts.{answer_text, answer_values, raise_text
 use Rattle.stored_tables.specs.Fits.{AllotFits}
 use Rattle.keeper_sqlite.specs.Columns.{IsPhaseRow, IsPartRow, IsAnswerRow, IsRaiseRow, IsAllotRow, TellsPhase, TellsKey}
 use Rattle.keeper_sqlite.specs.Rising.{rise_after_key}
+use Rattle.keeper_sqlite.specs.declared.calls.Act.{Act}
+use Rattle.keeper_sqlite.specs.declared.calls.Act.TheVariants.{Run, ExpectNone}
 use Rattle.keeper_sqlite.specs.declared.rising.Key.{Key}
 use Rattle.keeper_sqlite.specs.declared.transactions.Change.{Change}
 use Rattle.keeper_sqlite.specs.declared.transactions.Change.TheVariants.{Answer, Raise, Tables, Season, Cut}
@@ -31,6 +33,11 @@ pub data Call : Type 0 where
   Places : List ℕ → Row → Call
   Asks : List ℕ → List Row → Call
   Readies : List ℕ → Call
+
+-- the call of an act
+abbrev pub call_of : Act → Call
+call_of (Run text) = Runs text.now []
+call_of (ExpectNone text) = Asks text.now []
 
 -- each text is run as it is, with no values
 abbrev pub plain_calls : List (List ℕ) → List Call

@@ -16,7 +16,7 @@ ghost use Rattle.keeper_sqlite.specs.Rising.{key_after};
 ghost use Rattle.keeper_sqlite.specs.Stops.{LosesKey, LosesRecords};
 ghost use Rattle.keeper_sqlite.specs.Kept.Call.{Runs, Asks, Readies};
 
-use crate::calls::{ask, expect_none, make_ready, run, run_ready};
+use crate::calls::{ask, make_ready, run_ready};
 use crate::columns::{number_at, small_number_at, step_at};
 use crate::halt::Halt;
 use crate::records::{Record, records_of};
@@ -25,32 +25,6 @@ use kept_rows::{AllotRow, AllotRows};
 use office_base::{CandId, ProgId, step_number};
 use sqlite::{Alter, Row, Statement, Transaction, params};
 use std::alloc::Global;
-
-/// Makes the table if it is missing.
-pub(crate) fn create<S: Alter>(tx: &mut Transaction<'_, S>) -> Result<(), Halt>
-    ensures inside { StaysInside S.Store tx.old.conn tx.new.conn }
-    ensures acts { Performs S.Store (Runs allot_table [] ∷ []) tx.old.conn tx.new.conn result }
-    ensures stands { (strict : Bool) → IsClean S.Store tx.new.conn.now
-        → tx.old.conn.now.schema ≡ stored strict
-        → OnOk result (content S.Store tx.new.conn.now ≡ content S.Store tx.old.conn.now) }
-{
-    run(
-        tx,
-        "CREATE TABLE IF NOT EXISTS allot (rnd INTEGER NOT NULL, cand INTEGER NOT NULL, prog INTEGER NOT NULL, step INTEGER NOT NULL, PRIMARY KEY (rnd, cand)) STRICT",
-        &[],
-    )
-}
-
-/// Tests that no row is there.
-pub(crate) fn expect_empty<S: Alter>(tx: &mut Transaction<'_, S>) -> Result<(), Halt>
-    ensures inside { StaysInside S.Store tx.old.conn tx.new.conn }
-    ensures acts { Performs S.Store (Asks (codes "SELECT rnd FROM allot LIMIT 1") [] ∷ [])
-        tx.old.conn tx.new.conn result }
-    ensures none { (strict : Bool) → IsClean S.Store tx.new.conn.now → tx.old.conn.now.schema
-        ≡ stored strict → OnOk result ((content S.Store tx.old.conn.now).trees 3 ≡ []) }
-{
-    expect_none(tx, "SELECT rnd FROM allot LIMIT 1")
-}
 
 /// Puts rows, by one statement that is made ready once.
 pub(crate) fn insert_all<S: Alter>(

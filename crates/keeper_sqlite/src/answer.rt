@@ -12,7 +12,7 @@ ghost use Rattle.kept_rows.specs.declared.rows.AnswerRow.{AnswerRow};
 ghost use Rattle.keeper_sqlite.specs.Stops.{StopsIn, LosesRecords};
 ghost use Rattle.keeper_sqlite.specs.Kept.Call.{Runs, Asks};
 
-use crate::calls::{ask, expect_none, run};
+use crate::calls::{ask, run};
 use crate::columns::{choice_at, expect_number, number_at, small_number_at};
 use crate::halt::Halt;
 use crate::numbers::number_of_choice;
@@ -21,32 +21,6 @@ use kept_rows::{AnswerRow, AnswerRows};
 use office_base::CandId;
 use sqlite::{Alter, Row, Transaction, params};
 use std::alloc::Global;
-
-/// Makes the table if it is missing.
-pub(crate) fn create<S: Alter>(tx: &mut Transaction<'_, S>) -> Result<(), Halt>
-    ensures inside { StaysInside S.Store tx.old.conn tx.new.conn }
-    ensures acts { Performs S.Store (Runs answer_table [] ∷ []) tx.old.conn tx.new.conn result }
-    ensures stands { (strict : Bool) → IsClean S.Store tx.new.conn.now
-        → tx.old.conn.now.schema ≡ stored strict
-        → OnOk result (content S.Store tx.new.conn.now ≡ content S.Store tx.old.conn.now) }
-{
-    run(
-        tx,
-        "CREATE TABLE IF NOT EXISTS answer (seq INTEGER PRIMARY KEY, win INTEGER NOT NULL, cand INTEGER NOT NULL, turn INTEGER NOT NULL, choice INTEGER NOT NULL, UNIQUE (win, cand, turn)) STRICT",
-        &[],
-    )
-}
-
-/// Tests that no row is there.
-pub(crate) fn expect_empty<S: Alter>(tx: &mut Transaction<'_, S>) -> Result<(), Halt>
-    ensures inside { StaysInside S.Store tx.old.conn tx.new.conn }
-    ensures acts { Performs S.Store (Asks (codes "SELECT seq FROM answer LIMIT 1") [] ∷ [])
-        tx.old.conn tx.new.conn result }
-    ensures none { (strict : Bool) → IsClean S.Store tx.new.conn.now → tx.old.conn.now.schema
-        ≡ stored strict → OnOk result ((content S.Store tx.old.conn.now).trees 1 ≡ []) }
-{
-    expect_none(tx, "SELECT seq FROM answer LIMIT 1")
-}
 
 /// Puts a row after the others.
 pub(crate) fn insert<S: Alter>(tx: &mut Transaction<'_, S>, row: AnswerRow) -> Result<(), Halt>

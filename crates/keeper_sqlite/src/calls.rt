@@ -1,16 +1,46 @@
 // Calls on the database inside a transaction, as contracts name them.
-ghost use Rattle.std.specs.Prelude.{◌≡◌, ◌≢◌, [], ◌∷◌, IfErr, OnOk};
+ghost use Rattle.std.specs.Prelude.{◌≡◌, ◌≢◌, [], ◌∷◌, map, IfErr, OnOk};
 ghost use Rattle.sqlite.specs.declared.error.Error.{Error};
 ghost use Rattle.keeper_sqlite.specs.Inside.{Acts, Performs, StaysInside};
 ghost use Rattle.keeper_sqlite.specs.declared.halt.Halt.TheVariants.{Refused, Unfit};
 ghost use Rattle.sqlite.specs.Values.{bound};
-ghost use Rattle.keeper_sqlite.specs.Kept.{DidAll};
+ghost use Rattle.keeper_sqlite.specs.Kept.{DidAll, call_of};
 ghost use Rattle.keeper_sqlite.specs.Stops.{StopsIn, IsRefusal, RefusesToTell};
 ghost use Rattle.keeper_sqlite.specs.Kept.Call.{Runs, Places, Asks, Readies};
 
 use crate::halt::Halt;
 use sqlite::types::ValueRef;
 use sqlite::{Alter, Row, Statement, Transaction};
+
+/// A text that takes no values.
+#[derive(Clone, Copy)]
+pub(crate) enum Act<'a> {
+    /// It is run as a statement.
+    Run(&'a str),
+    /// It is asked as a query, and must return no row.
+    ExpectNone(&'a str),
+}
+
+/// Performs the acts, one after another.
+pub(crate) fn perform<S: Alter>(tx: &mut Transaction<'_, S>, acts: &[Act<'_>]) -> Result<(), Halt>
+    ensures inside { StaysInside S.Store tx.old.conn tx.new.conn }
+    ensures acts { Performs S.Store (map call_of acts.now) tx.old.conn tx.new.conn result }
+{
+    for act in acts {
+        perform_one(tx, *act)?;
+    }
+    Ok(())
+}
+
+fn perform_one<S: Alter>(tx: &mut Transaction<'_, S>, act: Act<'_>) -> Result<(), Halt>
+    ensures inside { StaysInside S.Store tx.old.conn tx.new.conn }
+    ensures acts { Performs S.Store (call_of act.entry ∷ []) tx.old.conn tx.new.conn result }
+{
+    match act {
+        Act::Run(text) => run(tx, text, &[]),
+        Act::ExpectNone(text) => expect_none(tx, text),
+    }
+}
 
 /// Runs a statement.
 pub(crate) fn run<S: Alter>(
@@ -56,7 +86,7 @@ pub(crate) fn ask<S: Alter>(tx: &mut Transaction<'_, S>, text: &str) -> Result<V
 }
 
 /// Tests that a query returns no row.
-pub(crate) fn expect_none<S: Alter>(tx: &mut Transaction<'_, S>, text: &str) -> Result<(), Halt>
+fn expect_none<S: Alter>(tx: &mut Transaction<'_, S>, text: &str) -> Result<(), Halt>
     ensures inside { StaysInside S.Store tx.old.conn tx.new.conn }
     ensures acts { Performs S.Store (Asks text.now [] ∷ []) tx.old.conn tx.new.conn result }
 {

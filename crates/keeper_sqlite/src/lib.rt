@@ -1,7 +1,8 @@
 // A keeper over a database: the records of a season as rows of five tables.
 //
 // It meets the trait of keepers over a connection to any store, a file or memory.
-// Each method is one transaction, and each statement has a function of its own, one module a table.
+// Each method is one transaction. What runs without values is a list of acts (`tables`), and each other statement has a
+// function of its own, one module a table.
 // Everything that the database refuses, a lack of memory apart, is a counted fault, and so are rows that are no
 // records. On an open store with its five tables alone, the rows are visible as records.
 // After a put, the visible tables are what the put says, or unchanged, and a crash leaves one of the two
@@ -23,6 +24,7 @@ mod phase;
 mod records;
 mod rising;
 mod season;
+mod tables;
 mod transactions;
 
 pub use keeper::SqliteKeeper;

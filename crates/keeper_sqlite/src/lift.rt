@@ -12,7 +12,7 @@ ghost use Rattle.kept_rows.specs.declared.rows.RaiseRow.{RaiseRow};
 ghost use Rattle.keeper_sqlite.specs.Stops.{StopsIn, LosesRecords};
 ghost use Rattle.keeper_sqlite.specs.Kept.Call.{Runs, Asks};
 
-use crate::calls::{ask, expect_none, run};
+use crate::calls::{ask, run};
 use crate::columns::{expect_number, small_number_at, step_at};
 use crate::halt::Halt;
 use crate::records::{Record, records_of};
@@ -20,32 +20,6 @@ use kept_rows::{RaiseRow, RaiseRows};
 use office_base::{ProgId, step_number};
 use sqlite::{Alter, Row, Transaction, params};
 use std::alloc::Global;
-
-/// Makes the table if it is missing.
-pub(crate) fn create<S: Alter>(tx: &mut Transaction<'_, S>) -> Result<(), Halt>
-    ensures inside { StaysInside S.Store tx.old.conn tx.new.conn }
-    ensures acts { Performs S.Store (Runs lift_table [] ∷ []) tx.old.conn tx.new.conn result }
-    ensures stands { (strict : Bool) → IsClean S.Store tx.new.conn.now
-        → tx.old.conn.now.schema ≡ stored strict
-        → OnOk result (content S.Store tx.new.conn.now ≡ content S.Store tx.old.conn.now) }
-{
-    run(
-        tx,
-        "CREATE TABLE IF NOT EXISTS lift (seq INTEGER PRIMARY KEY, win INTEGER NOT NULL, prog INTEGER NOT NULL, step INTEGER NOT NULL, seats INTEGER NOT NULL) STRICT",
-        &[],
-    )
-}
-
-/// Tests that no row is there.
-pub(crate) fn expect_empty<S: Alter>(tx: &mut Transaction<'_, S>) -> Result<(), Halt>
-    ensures inside { StaysInside S.Store tx.old.conn tx.new.conn }
-    ensures acts { Performs S.Store (Asks (codes "SELECT seq FROM lift LIMIT 1") [] ∷ [])
-        tx.old.conn tx.new.conn result }
-    ensures none { (strict : Bool) → IsClean S.Store tx.new.conn.now → tx.old.conn.now.schema
-        ≡ stored strict → OnOk result ((content S.Store tx.old.conn.now).trees 6 ≡ []) }
-{
-    expect_none(tx, "SELECT seq FROM lift LIMIT 1")
-}
 
 /// Puts a row after the others.
 pub(crate) fn insert<S: Alter>(tx: &mut Transaction<'_, S>, row: RaiseRow) -> Result<(), Halt>

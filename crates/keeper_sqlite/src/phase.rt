@@ -17,21 +17,6 @@ use sqlite::{Alter, Row, Transaction, params};
 /// The one key.
 const ID: u32 = 1;
 
-/// Makes the table if it is missing.
-pub(crate) fn create<S: Alter>(tx: &mut Transaction<'_, S>) -> Result<(), Halt>
-    ensures inside { StaysInside S.Store tx.old.conn tx.new.conn }
-    ensures acts { Performs S.Store (Runs phase_table [] ∷ []) tx.old.conn tx.new.conn result }
-    ensures stands { (strict : Bool) → IsClean S.Store tx.new.conn.now
-        → tx.old.conn.now.schema ≡ stored strict
-        → OnOk result (content S.Store tx.new.conn.now ≡ content S.Store tx.old.conn.now) }
-{
-    run(
-        tx,
-        "CREATE TABLE IF NOT EXISTS phase (id INTEGER PRIMARY KEY, cuts INTEGER NOT NULL) STRICT",
-        &[],
-    )
-}
-
 /// Puts the row of a season without cuts, if the table has no row.
 pub(crate) fn insert<S: Alter>(tx: &mut Transaction<'_, S>) -> Result<(), Halt>
     ensures inside { StaysInside S.Store tx.old.conn tx.new.conn }

@@ -12,7 +12,7 @@ ghost use Rattle.stored_tables.specs.Rows.{text_in};
 ghost use Rattle.keeper_sqlite.specs.Stops.{StopsText, LosesRecords};
 ghost use Rattle.keeper_sqlite.specs.Kept.Call.{Runs, Asks};
 
-use crate::calls::{ask, expect_none, make_ready, run, run_ready};
+use crate::calls::{ask, make_ready, run_ready};
 use crate::halt::Halt;
 use office_base::{Listed, Text};
 use sqlite::types::ValueRef;
@@ -21,32 +21,6 @@ use std::alloc::Global;
 
 /// The most bytes that a part has.
 const PART: usize = 65_536;
-
-/// Makes the table if it is missing.
-pub(crate) fn create<S: Alter>(tx: &mut Transaction<'_, S>) -> Result<(), Halt>
-    ensures inside { StaysInside S.Store tx.old.conn tx.new.conn }
-    ensures acts { Performs S.Store (Runs season_table [] ∷ []) tx.old.conn tx.new.conn result }
-    ensures stands { (strict : Bool) → IsClean S.Store tx.new.conn.now
-        → tx.old.conn.now.schema ≡ stored strict
-        → OnOk result (content S.Store tx.new.conn.now ≡ content S.Store tx.old.conn.now) }
-{
-    run(
-        tx,
-        "CREATE TABLE IF NOT EXISTS season (part INTEGER PRIMARY KEY, bytes BLOB NOT NULL) STRICT",
-        &[],
-    )
-}
-
-/// Tests that no row is there.
-pub(crate) fn expect_empty<S: Alter>(tx: &mut Transaction<'_, S>) -> Result<(), Halt>
-    ensures inside { StaysInside S.Store tx.old.conn tx.new.conn }
-    ensures acts { Performs S.Store (Asks (codes "SELECT part FROM season LIMIT 1") [] ∷ [])
-        tx.old.conn tx.new.conn result }
-    ensures none { (strict : Bool) → IsClean S.Store tx.new.conn.now → tx.old.conn.now.schema
-        ≡ stored strict → OnOk result ((content S.Store tx.old.conn.now).trees 0 ≡ []) }
-{
-    expect_none(tx, "SELECT part FROM season LIMIT 1")
-}
 
 /// Puts a text in parts, from 0, by one statement that is made ready once.
 pub(crate) fn insert_text<S: Alter>(tx: &mut Transaction<'_, S>, text: &[u8]) -> Result<(), Halt>

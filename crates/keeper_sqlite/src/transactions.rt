@@ -12,7 +12,7 @@ ghost use Rattle.keeper_sqlite.specs.Kept.{Keeps, MadeBy, Looks, TellsSeason, Te
 
 use crate::halt::Halt;
 use crate::rising::are_rising;
-use crate::{allot, answer, lift, phase, season};
+use crate::{allot, answer, lift, phase, season, tables};
 use kept_rows::{AllotRow, AnswerRow, Kept, RaiseRow};
 use sqlite::{Alter, Connection, Transaction};
 use std::alloc::Global;
@@ -111,39 +111,12 @@ fn write<S: Alter>(tx: &mut Transaction<'_, S>, change: Change<'_>) -> Result<()
         tx.old.conn tx.new.conn result }
 {
     match change {
-        Change::Tables => write_tables(tx),
+        Change::Tables => tables::create(tx),
         Change::Season(text) => write_season(tx, text),
         Change::Answer(row) => answer::insert(tx, row),
         Change::Raise(row) => lift::insert(tx, row),
         Change::Cut(rows) => write_cut(tx, rows),
     }
-}
-
-fn write_tables<S: Alter>(tx: &mut Transaction<'_, S>) -> Result<(), Halt>
-    ensures inside { StaysInside S.Store tx.old.conn tx.new.conn }
-    ensures acts { Performs S.Store (plain_calls table_texts) tx.old.conn tx.new.conn result }
-{
-    make_first_tables(tx)?;
-    make_last_tables(tx)
-}
-
-fn make_first_tables<S: Alter>(tx: &mut Transaction<'_, S>) -> Result<(), Halt>
-    ensures inside { StaysInside S.Store tx.old.conn tx.new.conn }
-    ensures acts { Performs S.Store (plain_calls (season_table ∷ answer_table ∷ [])) tx.old.conn
-        tx.new.conn result }
-{
-    season::create(tx)?;
-    answer::create(tx)
-}
-
-fn make_last_tables<S: Alter>(tx: &mut Transaction<'_, S>) -> Result<(), Halt>
-    ensures inside { StaysInside S.Store tx.old.conn tx.new.conn }
-    ensures acts { Performs S.Store (plain_calls (allot_table ∷ phase_table ∷ lift_table ∷ []))
-        tx.old.conn tx.new.conn result }
-{
-    allot::create(tx)?;
-    phase::create(tx)?;
-    lift::create(tx)
 }
 
 /// Returns whether a season is kept.
@@ -178,29 +151,9 @@ fn write_season<S: Alter>(tx: &mut Transaction<'_, S>, text: &[u8]) -> Result<()
     ensures acts { Acts S.Store (λ _. PutsText S.Store season_calls text.now) (StopsText S.Store
         season_calls 0 text.now) tx.old.conn tx.new.conn result }
 {
-    expect_empty(tx)?;
+    tables::expect_empty(tx)?;
     season::insert_text(tx, text)?;
     phase::insert(tx)
-}
-
-/// Tests that no table other than the phase has a row.
-fn expect_empty<S: Alter>(tx: &mut Transaction<'_, S>) -> Result<(), Halt>
-    ensures inside { StaysInside S.Store tx.old.conn tx.new.conn }
-    ensures acts { Performs S.Store (unanswered_calls any_row_queries) tx.old.conn tx.new.conn
-        result }
-{
-    season::expect_empty(tx)?;
-    expect_no_rows(tx)
-}
-
-fn expect_no_rows<S: Alter>(tx: &mut Transaction<'_, S>) -> Result<(), Halt>
-    ensures inside { StaysInside S.Store tx.old.conn tx.new.conn }
-    ensures acts { Performs S.Store (unanswered_calls (drop 1 any_row_queries)) tx.old.conn
-        tx.new.conn result }
-{
-    answer::expect_empty(tx)?;
-    lift::expect_empty(tx)?;
-    allot::expect_empty(tx)
 }
 
 fn write_cut<S: Alter>(tx: &mut Transaction<'_, S>, rows: &[AllotRow]) -> Result<(), Halt>

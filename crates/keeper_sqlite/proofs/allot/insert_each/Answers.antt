@@ -1,20 +1,22 @@
-use Rattle.keeper_sqlite.proofs.StopLemmas.{seat_stop, seat_lost}
+use Rattle.keeper_sqlite.proofs.StopLemmas.{one_stop, one_lost}
 use Rattle.std.proofs.lemmas.Result.{err_from_is_err_and}
 use Rattle.std.proofs.Common.{◌∙◌}
-use Rattle.keeper_sqlite.proofs.CallLemmas.{seat_put, fit_more}
+use Rattle.keeper_sqlite.proofs.CallLemmas.{one_made, fit_more}
 use Rattle.keeper_sqlite.proofs.CommitLemmas.{nothing_then}
+use Rattle.keeper_sqlite.specs.Kept.{allot_values}
+use Rattle.keeper_sqlite.specs.Kept.Call.{Runs}
 use Rattle.keeper_sqlite.proofs.allot.insert_each.Goals as goal
 
 pub loop-row-preserved : goal.loop-row-preserved
 loop-row-preserved g c = (
   c.insert_one.ensures.inside.0 ∙ c.loop-row.invariant.0,
   nothing_then _ _ _ c.loop-row.invariant.1 c.insert_one.ensures.inside.1,
-  seat_put g.S.Store c.args.insert.now.text c.args.rows.now c.loop-row.row-index _ c.args.tx.now.conn.now c.loop-row.tx.conn.now c.insert_one.new.tx.conn.now c.loop-row-test.true c.insert_one.ensures.inside.1 c.loop-row.invariant.2 c.in_ok-insert_one.ensures.acts.done,
-  seat_stop g.S.Store c.args.insert.now.text c.args.rows.now c.loop-row.row-index _ c.args.tx.now.conn.now c.loop-row.tx.conn.now c.insert_one.new.tx.conn.now c.loop-row-test.true c.insert_one.ensures.inside.1 c.loop-row.invariant.3 c.in_ok-insert_one.ensures.acts.done,
+  one_made g.S.Store (λ row. Runs c.args.insert.now.text (allot_values row)) c.args.rows.now c.loop-row.row-index _ c.args.tx.now.conn.now c.loop-row.tx.conn.now c.insert_one.new.tx.conn.now c.loop-row-test.true c.insert_one.ensures.inside.1 c.loop-row.invariant.2 c.in_ok-insert_one.ensures.acts.done,
+  one_stop g.S.Store (λ row. Runs c.args.insert.now.text (allot_values row)) c.args.rows.now c.loop-row.row-index _ c.args.tx.now.conn.now c.loop-row.tx.conn.now c.insert_one.new.tx.conn.now c.loop-row-test.true c.insert_one.ensures.inside.1 c.loop-row.invariant.3 c.in_ok-insert_one.ensures.acts.done,
   fit_more c.args.rows.now c.loop-row.row-index _ c.loop-row-test.true c.loop-row.invariant.4 c.insert_one.ensures.fits,
 )
 
 pub returns-in_err-insert_one-clause-acts : goal.returns-in_err-insert_one-clause-acts
 returns-in_err-insert_one-clause-acts g c =
     let p = err_from_is_err_and c.from_residual.result c.from_residual.ensures.1 in
-    rw (p.1, p.2) (record { done = λ _. tt; lost = λ clean. seat_lost g.S.Store c.args.insert.now.text c.args.rows.now c.loop-row.row-index _ _ c.args.tx.now.conn.now c.loop-row.tx.conn.now c.insert_one.new.tx.conn.now c.loop-row-test.true c.insert_one.ensures.inside.1 c.loop-row.invariant.3 clean (c.in_err-insert_one.ensures.acts.lost clean) })
+    rw (p.1, p.2) (record { done = λ _. tt; lost = λ clean. one_lost g.S.Store (λ row. Runs c.args.insert.now.text (allot_values row)) c.args.rows.now c.loop-row.row-index _ _ c.args.tx.now.conn.now c.loop-row.tx.conn.now c.insert_one.new.tx.conn.now c.loop-row-test.true c.insert_one.ensures.inside.1 c.loop-row.invariant.3 clean (c.in_err-insert_one.ensures.acts.lost clean) })
