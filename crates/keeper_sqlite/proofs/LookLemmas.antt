@@ -21,6 +21,7 @@ use Rattle.stored_tables.proofs.StandLemmas.{one_list, one_answer, one_raise, on
 use Rattle.stored_tables.proofs.ShowLemmas.{query_same, shows_phase, shows_parts, shows_answers, shows_raises, shows_allots}
 use Rattle.stored_tables.proofs.TextLemmas.{phase_query-is, text_query-is, answers_query-is, raises_query-is}
 use Rattle.keeper_sqlite.specs.Columns.{IsAnswerRow, IsRaiseRow, IsAllotRow, IsPartRow}
+use Rattle.keeper_sqlite.specs.Inside.{AreRecords}
 use Rattle.keeper_sqlite.specs.Kept.{Looks, TellsSeason, TellsPhaseOf, TellsKept, TellsTables, phase_query, text_query, answers_query, raises_query}
 use Rattle.sqlite_trees.proofs.Doubt.{no_doubt}
 use Rattle.keeper_sqlite.proofs.KeeperLemmas.{told_has}
@@ -45,15 +46,18 @@ found_with (Some n) db = go (text_in db) (answers_in db) (raises_in db) (allots_
 
 -- ---- what is loaded
 
-loaded_with : (n : ℕ) (t : Option (List ℕ)) (a : Option (List AnswerRow)) (r : Option (List RaiseRow)) (s : Option (List AllotRow)) (kept : Kept) → n ≡ kept.cuts → ((text : List ℕ) → t ≡ Some text → text ≡ kept.season)
-    → ((all : List AnswerRow) → a ≡ Some all → all ≡ kept.answers) → ((all : List RaiseRow) → r ≡ Some all → all ≡ kept.raises) → ((all : List AllotRow) → s ≡ Some all → all ≡ kept.allots) → IsLoaded (records_of n t a r s) kept
-loaded_with n (Some t) (Some a) (Some r) (Some s) kept cuts text answers raises allots =
-    let t_is = text t refl in let a_is = answers a refl in let r_is = raises r refl in let s_is = allots s refl in
-    λ i. record { season = t_is i; answers = a_is i; raises = r_is i; allots = s_is i; cuts = cuts i }
-loaded_with n (Some t) (Some a) (Some r) None kept cuts text answers raises allots = tt
-loaded_with n (Some t) (Some a) None s kept cuts text answers raises allots = tt
-loaded_with n (Some t) None r s kept cuts text answers raises allots = tt
-loaded_with n None a r s kept cuts text answers raises allots = tt
+loaded_with : (n : ℕ) (db : Trees) (kept : Kept) → n ≡ kept.cuts → AreRecords db kept → IsLoaded (records_of n (text_in db) (answers_in db) (raises_in db) (allots_in db)) kept
+loaded_with n db kept cuts are = go (text_in db) (answers_in db) (raises_in db) (allots_in db) are.season are.answers are.raises are.allots
+  where
+    go : (t : Option (List ℕ)) (a : Option (List AnswerRow)) (r : Option (List RaiseRow)) (s : Option (List AllotRow)) → ((text : List ℕ) → t ≡ Some text → text ≡ kept.season) → ((all : List AnswerRow) → a ≡ Some all → all ≡ kept.answers)
+        → ((all : List RaiseRow) → r ≡ Some all → all ≡ kept.raises) → ((all : List AllotRow) → s ≡ Some all → all ≡ kept.allots) → IsLoaded (records_of n t a r s) kept
+    go (Some t) (Some a) (Some r) (Some s) text answers raises allots =
+        let t_is = text t refl in let a_is = answers a refl in let r_is = raises r refl in let s_is = allots s refl in
+        λ i. record { season = t_is i; answers = a_is i; raises = r_is i; allots = s_is i; cuts = cuts i }
+    go (Some t) (Some a) (Some r) None text answers raises allots = tt
+    go (Some t) (Some a) None s text answers raises allots = tt
+    go (Some t) None r s text answers raises allots = tt
+    go None a r s text answers raises allots = tt
 
 pub rising_is : (all some : List AllotRow) → rising_alone all ≡ Some some → (are_rising all ≡ true) × (all ≡ some)
 rising_is all some h = elim (cases_Bool (are_rising all)) [
@@ -67,10 +71,9 @@ module _ {S : Type 0} (g : Ghosts S) where
       let asked = shown_of g phase_query it.rows old new it.asked in
       (shows_phase strict (state g old) (state g new) it.rows has asked found it.tells, query_same phase_query _ _ _ _ phase_query-is strict (state g old) (state g new) it.rows has asked)
 
-  -- the loaded records are those of the visible tables
-  tables_loaded : (strict : Bool) (kept : Kept) (n : ℕ) (db : Database) (old new : Held S) → n ≡ kept.cuts → (state g old).now ≡ db → db.schema ≡ stored strict → TellsTables g kept old new
-      → IsLoaded (records_of n (text_in db.trees) (answers_in db.trees) (raises_in db.trees) (allots_in db.trees)) kept
-  tables_loaded strict kept n db old new cuts same has t =
+  -- the loaded records are those of the tables
+  pub tables_loaded : (strict : Bool) (kept : Kept) (db : Database) (old new : Held S) → (state g old).now ≡ db → db.schema ≡ stored strict → TellsTables g kept old new → AreRecords db.trees kept
+  tables_loaded strict kept db old new same has t =
       let on = λ (d : Database). d.schema in
       let has0 : old.schema ≡ stored strict = ap on same ∙ has in
       let asked1 = shown_of g _ _ old t.one t.season.told.asked in
@@ -83,18 +86,19 @@ module _ {S : Type 0} (g : Ghosts S) where
       let same3 : (state g t.three).now ≡ db = query_same raises_query _ _ _ _ raises_query-is strict (state g t.two) (state g t.three) _ has2 asked3 ∙ same2 in
       let has3 : t.three.schema ≡ stored strict = ap on same3 ∙ has in
       let asked4 = shown_of g _ _ t.three new t.allots.asked in
-      loaded_with n (text_in db.trees) (answers_in db.trees) (raises_in db.trees) (allots_in db.trees) kept cuts
-      (λ text is.
-      let p = map_some (rows_from part_of 0 (db.trees 0)) concat text is in
-      let stand = shows_parts strict (state g old) (state g t.one) _ has0 asked1 p.0 (ap (λ (d : Database). rows_from part_of 0 (d.trees 0)) same ∙ p.1) in
-      sym p.2 ∙ (ap concat (one_list IsPartRow one_part _ p.0 t.season.parts stand t.season.told.stand) ∙ t.season.joined))
-      (λ all is. one_list IsAnswerRow one_answer _ all kept.answers (shows_answers strict (state g t.one) (state g t.two) _ has1 asked2 all (ap (λ (d : Database). answers_in d.trees) same1 ∙ is)) t.answers.stand)
-      (λ all is. one_list IsRaiseRow one_raise _ all kept.raises (shows_raises strict (state g t.two) (state g t.three) _ has2 asked3 all (ap (λ (d : Database). raises_in d.trees) same2 ∙ is)) t.raises.stand)
-      (λ all is.
-      let p = then_some (rows_from allot_of 1 (db.trees 3)) rising_alone all is in
-      let rise = rising_is p.0 all p.2 in
-      let stand = shows_allots strict (state g t.three) (state g new) _ has3 asked4 p.0 (ap (λ (d : Database). rows_from allot_of 1 (d.trees 3)) same3 ∙ p.1) rise.0 in
-      sym rise.1 ∙ one_list IsAllotRow one_allot _ p.0 kept.allots stand t.allots.stand)
+      record {
+        season = λ text is.
+            let p = map_some (rows_from part_of 0 (db.trees 0)) concat text is in
+            let stand = shows_parts strict (state g old) (state g t.one) _ has0 asked1 p.0 (ap (λ (d : Database). rows_from part_of 0 (d.trees 0)) same ∙ p.1) in
+            sym p.2 ∙ (ap concat (one_list IsPartRow one_part _ p.0 t.season.parts stand t.season.told.stand) ∙ t.season.joined);
+        answers = λ all is. one_list IsAnswerRow one_answer _ all kept.answers (shows_answers strict (state g t.one) (state g t.two) _ has1 asked2 all (ap (λ (d : Database). answers_in d.trees) same1 ∙ is)) t.answers.stand;
+        raises = λ all is. one_list IsRaiseRow one_raise _ all kept.raises (shows_raises strict (state g t.two) (state g t.three) _ has2 asked3 all (ap (λ (d : Database). raises_in d.trees) same2 ∙ is)) t.raises.stand;
+        allots = λ all is.
+            let p = then_some (rows_from allot_of 1 (db.trees 3)) rising_alone all is in
+            let rise = rising_is p.0 all p.2 in
+            let stand = shows_allots strict (state g t.three) (state g new) _ has3 asked4 p.0 (ap (λ (d : Database). rows_from allot_of 1 (d.trees 3)) same3 ∙ p.1) rise.0 in
+            sym rise.1 ∙ one_list IsAllotRow one_allot _ p.0 kept.allots stand t.allots.stand;
+      }
 
   -- tables that are visible after were visible before, or nothing is visible after
   told_by : (P : Tables → Type 0) (old new : Held S) → P Untold → (IsTold (told (state g new)) → P (told (state g new))) → P (told (state g new))
@@ -128,7 +132,7 @@ module _ {S : Type 0} (g : Ghosts S) where
       let l = looks it in
       let p = phase_is h.0 (Some kept.cuts) (record old { in_transaction = true }) l.done.0 h.1 l.done.1 in
       subst (λ t. IsLoaded t kept) (sym (same ∙ (h.2 ∙ ap (λ q. tables_with q (state g old).now.trees) p.0)))
-      (tables_loaded h.0 kept kept.cuts (state g old).now l.done.0 l.last refl p.1 h.1 l.done.2))
+      (loaded_with kept.cuts (state g old).now.trees kept refl (tables_loaded h.0 kept (state g old).now l.done.0 l.last p.1 h.1 l.done.2)))
 
   -- a store with visible tables is open and clean
   told_open : (h : Held S) → IsTold (told (state g h)) → IsTrue (state g h).is_open

@@ -16,21 +16,21 @@ use Rattle.kept_rows.specs.Tables.{Tables, Records, IsTold, with_cut}
 use Rattle.stored_tables.specs.Fits.{AnswerFits, RaiseFits, AllotFits}
 use Rattle.stored_tables.specs.Layout.{stored}
 use Rattle.stored_tables.specs.Rising.{are_rising as rise}
-use Rattle.stored_tables.specs.Rows.{answers_in, raises_in, allots_in, text_in, cuts_of, rows_from, part_of, allot_of, rising_alone}
+use Rattle.stored_tables.specs.Rows.{allots_in, text_in, cuts_of, rows_from, part_of, allot_of, rising_alone}
 use Rattle.stored_tables.specs.Puts.{PutsAnswer, PutsRaise, PutsAllot, PutsPart, PutsCuts, OpensPhase}
 use Rattle.stored_tables.specs.Told.{told}
-use Rattle.stored_tables.proofs.StandLemmas.{one_list, one_answer, one_raise, one_allot, one_part, then_some, map_some, same_number}
+use Rattle.stored_tables.proofs.StandLemmas.{one_list, one_part, then_some, map_some, same_number}
 use Rattle.stored_tables.proofs.OrderLemmas.{last_of}
 use Rattle.stored_tables.proofs.SeatLemmas.{seats_rise}
 use Rattle.stored_tables.proofs.TableLemmas.{puts_answer, puts_raise, puts_allot, puts_part}
 use Rattle.stored_tables.proofs.PhaseLemmas.{puts_cuts, opens_phase}
-use Rattle.stored_tables.proofs.ShowLemmas.{IsLastKey, shows_phase, shows_key, shows_answers, shows_raises, shows_allots, shows_parts, phase_stands}
+use Rattle.stored_tables.proofs.ShowLemmas.{IsLastKey, shows_phase, shows_key, shows_parts, phase_stands}
 use Rattle.stored_tables.proofs.CreateLemmas.{all_stand}
-use Rattle.keeper_sqlite.specs.Columns.{IsAnswerRow, IsRaiseRow, IsAllotRow, IsPartRow, TellsKey}
+use Rattle.keeper_sqlite.specs.Columns.{IsPartRow, TellsKey}
 use Rattle.keeper_sqlite.specs.Rising.{key_after, key_of}
 use Rattle.keeper_sqlite.specs.declared.halt.Halt.{Halt}
 use Rattle.keeper_sqlite.specs.declared.rising.Key.{Key}
-use Rattle.keeper_sqlite.specs.Kept.{Ran, DidAll, plain_calls, table_texts, unanswered_calls, any_row_queries, TellsRecords, TellsText, TellsPhaseOf, answer_text, answer_values, raise_text, raise_values, allot_text, allot_values, part_text, part_values, cuts_text, cuts_values, opening_text, opening_values, phase_query, key_query, answers_query, raises_query, allots_query, text_query}
+use Rattle.keeper_sqlite.specs.Kept.{Ran, DidAll, plain_calls, table_texts, unanswered_calls, any_row_queries, TellsText, TellsPhaseOf, answer_text, answer_values, raise_text, raise_values, allot_text, allot_values, part_text, part_values, cuts_text, cuts_values, opening_text, opening_values, phase_query, key_query, text_query}
 use Rattle.keeper_sqlite.specs.Kept.Call.{Runs, Places, Asks}
 use Rattle.keeper_sqlite.proofs.LookLemmas.{rising_is}
 use Rattle.keeper_sqlite.proofs.KeeperLemmas.{told_has, runs_each}
@@ -93,27 +93,6 @@ module _ {S : Type 0} (g : Ghosts S) where
       → OnOk r (AllByRecursion (λ t. (state g old).now.trees t ≡ []) (0 ∷ 1 ∷ 6 ∷ 3 ∷ []))
   none_stand strict old new (Err halt) has asked clean = tt
   none_stand strict old new (Ok none) has asked clean = (none_asked g strict any_row_queries (0 ∷ 1 ∷ 6 ∷ 3 ∷ []) [] old new (any_asked g) has (asked clean)).2
-
-  pub answers_stand : (strict : Bool) (old new : Held S) (r : Result (List AnswerRow) Halt) → old.schema ≡ stored strict → (HasCleanDisk (state g new) → IfOk r (λ records. TellsRecords g IsAnswerRow answers_query records old new))
-      → HasCleanDisk (state g new) → IfOk r (λ records. (all : List AnswerRow) → answers_in (state g old).now.trees ≡ Some all → all ≡ records)
-  answers_stand strict old new (Err halt) has told clean = tt
-  answers_stand strict old new (Ok records) has told clean = λ all is.
-      let t = told clean in one_list IsAnswerRow one_answer t.rows all records (shows_answers strict (state g old) (state g new) t.rows has (shown_of g answers_query t.rows old new t.asked) all is) t.stand
-
-  pub raises_stand : (strict : Bool) (old new : Held S) (r : Result (List RaiseRow) Halt) → old.schema ≡ stored strict → (HasCleanDisk (state g new) → IfOk r (λ records. TellsRecords g IsRaiseRow raises_query records old new))
-      → HasCleanDisk (state g new) → IfOk r (λ records. (all : List RaiseRow) → raises_in (state g old).now.trees ≡ Some all → all ≡ records)
-  raises_stand strict old new (Err halt) has told clean = tt
-  raises_stand strict old new (Ok records) has told clean = λ all is.
-      let t = told clean in one_list IsRaiseRow one_raise t.rows all records (shows_raises strict (state g old) (state g new) t.rows has (shown_of g raises_query t.rows old new t.asked) all is) t.stand
-
-  pub allots_stand : (strict : Bool) (old new : Held S) (r : Result (List AllotRow) Halt) → old.schema ≡ stored strict → (HasCleanDisk (state g new) → IfOk r (λ records. TellsRecords g IsAllotRow allots_query records old new))
-      → HasCleanDisk (state g new) → IfOk r (λ records. (all : List AllotRow) → allots_in (state g old).now.trees ≡ Some all → all ≡ records)
-  allots_stand strict old new (Err halt) has told clean = tt
-  allots_stand strict old new (Ok records) has told clean = λ all is.
-      let t = told clean in
-      let p = then_some (rows_from allot_of 1 ((state g old).now.trees 3)) rising_alone all is in
-      let up = rising_is p.0 all p.2 in
-      sym up.1 ∙ one_list IsAllotRow one_allot t.rows p.0 records (shows_allots strict (state g old) (state g new) t.rows has (shown_of g allots_query t.rows old new t.asked) p.0 p.1 up.0) t.stand
 
   pub text_stands : (strict : Bool) (old new : Held S) (r : Result (List ℕ) Halt) → old.schema ≡ stored strict → (HasCleanDisk (state g new) → IfOk r (λ text. TellsText g text old new))
       → HasCleanDisk (state g new) → IfOk r (λ text. (all : List ℕ) → text_in (state g old).now.trees ≡ Some all → all ≡ text)

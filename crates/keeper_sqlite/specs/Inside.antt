@@ -1,18 +1,30 @@
 -- What calls inside a transaction leave, and what a connection shows.
-use Rattle.std.specs.Prelude.{◌≡◌, ◌⊎◌, ℕ, List, Option, Result, Ok, Err, IfOk, IfErr}
+use Rattle.std.specs.Prelude.{◌≡◌, ◌⊎◌, ℕ, List, Option, Some, Result, Ok, Err, IfOk, IfErr}
 use Rattle.std.specs.Borrow.{MutBor}
 use Rattle.sqlite.specs.Store.{Ghosts}
 use Rattle.sqlite.specs.Effect.{Database}
 use Rattle.sqlite.specs.State.{HasCleanDisk, IsRolledBack, Survives}
 use Rattle.sqlite.specs.Steps.{FailsToCommit}
 use Rattle.sqlite.specs.Held.{Held, state}
+use Rattle.sqlite.specs.Tree.{Trees}
+use Rattle.kept_rows.specs.declared.rows.AnswerRow.{AnswerRow}
+use Rattle.kept_rows.specs.declared.rows.AllotRow.{AllotRow}
+use Rattle.kept_rows.specs.declared.rows.RaiseRow.{RaiseRow}
+use Rattle.kept_rows.specs.declared.rows.Kept.{Kept}
 use Rattle.kept_rows.specs.Tables.{Tables}
-use Rattle.stored_tables.specs.Rows.{cuts_of}
+use Rattle.stored_tables.specs.Rows.{cuts_of, text_in, answers_in, raises_in, allots_in}
 use Rattle.stored_tables.specs.Told.{told, tables_in, without_raises}
 use Rattle.keeper_sqlite.specs.Commits.{CommitsNothing}
 use Rattle.keeper_sqlite.specs.Kept.{Call, DidAll}
 use Rattle.keeper_sqlite.specs.Stops.{IsRefusal, StopsIn}
 use Rattle.keeper_sqlite.specs.declared.halt.Halt.{Halt}
+
+-- where a table in these trees represents its own records, they are the ones that were loaded
+pub record AreRecords (db : Trees) (kept : Kept) : Type 0 where
+  pub season : (all : List ℕ) → text_in db ≡ Some all → all ≡ kept.season
+  pub answers : (all : List AnswerRow) → answers_in db ≡ Some all → all ≡ kept.answers
+  pub raises : (all : List RaiseRow) → raises_in db ≡ Some all → all ≡ kept.raises
+  pub allots : (all : List AllotRow) → allots_in db ≡ Some all → all ≡ kept.allots
 
 module _ {S : Type 0} (g : Ghosts S) where
   -- so far the disk under a connection returned what was written

@@ -19,7 +19,7 @@ ghost use Rattle.keeper_sqlite.specs.Kept.Call.{Runs, Asks, Readies};
 use crate::calls::{ask, make_ready, run_ready};
 use crate::columns::{number_at, small_number_at, step_at};
 use crate::halt::Halt;
-use crate::records::{Record, records_of};
+use crate::records::StoredRow;
 use crate::rising::Key;
 use kept_rows::{AllotRow, AllotRows};
 use office_base::{CandId, ProgId, step_number};
@@ -121,26 +121,7 @@ fn key_of(row: &Row) -> Result<Key, Halt>
     })
 }
 
-/// Returns all rows, by rising round and candidate.
-pub(crate) fn read_all<S: Alter>(
-    tx: &mut Transaction<'_, S>,
-    alloc: Global,
-) -> Result<AllotRows, Halt>
-    ensures inside { StaysInside S.Store tx.old.conn tx.new.conn }
-    ensures acts { Acts S.Store (TellsRecords S.Store IsAllotRow allots_query) (LosesRecords S.Store
-        IsAllotRow allots_query) tx.old.conn tx.new.conn result }
-    ensures stands { (strict : Bool) → IsClean S.Store tx.new.conn.now
-        → tx.old.conn.now.schema ≡ stored strict → IfOk result (λ records. (all : List AllotRow)
-        → allots_in (content S.Store tx.old.conn.now).trees ≡ Some all → all ≡ records) }
-{
-    let rows = ask(
-        tx,
-        "SELECT rnd, cand, prog, step FROM allot ORDER BY rnd, cand",
-    )?;
-    records_of(alloc, &rows)
-}
-
-impl Record for AllotRow {
+impl StoredRow for AllotRow {
     ghost stands_in = { IsAllotRow };
 
     fn from_row(row: &Row) -> Result<AllotRow, Halt> {

@@ -16,7 +16,7 @@ use crate::calls::{ask, run};
 use crate::columns::{choice_at, expect_number, number_at, small_number_at};
 use crate::halt::Halt;
 use crate::numbers::number_of_choice;
-use crate::records::{Record, records_of};
+use crate::records::StoredRow;
 use kept_rows::{AnswerRow, AnswerRows};
 use office_base::CandId;
 use sqlite::{Alter, Row, Transaction, params};
@@ -44,26 +44,7 @@ pub(crate) fn insert<S: Alter>(tx: &mut Transaction<'_, S>, row: AnswerRow) -> R
     )
 }
 
-/// Returns all rows, in the order in which they were put.
-pub(crate) fn read_all<S: Alter>(
-    tx: &mut Transaction<'_, S>,
-    alloc: Global,
-) -> Result<AnswerRows, Halt>
-    ensures inside { StaysInside S.Store tx.old.conn tx.new.conn }
-    ensures acts { Acts S.Store (TellsRecords S.Store IsAnswerRow answers_query) (LosesRecords
-        S.Store IsAnswerRow answers_query) tx.old.conn tx.new.conn result }
-    ensures stands { (strict : Bool) → IsClean S.Store tx.new.conn.now
-        → tx.old.conn.now.schema ≡ stored strict → IfOk result (λ records. (all : List AnswerRow)
-        → answers_in (content S.Store tx.old.conn.now).trees ≡ Some all → all ≡ records) }
-{
-    let rows = ask(
-        tx,
-        "SELECT seq, win, cand, turn, choice FROM answer ORDER BY seq",
-    )?;
-    records_of(alloc, &rows)
-}
-
-impl Record for AnswerRow {
+impl StoredRow for AnswerRow {
     ghost stands_in = { IsAnswerRow };
 
     fn from_row(row: &Row) -> Result<AnswerRow, Halt> {

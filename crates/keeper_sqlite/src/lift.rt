@@ -15,7 +15,7 @@ ghost use Rattle.keeper_sqlite.specs.Kept.Call.{Runs, Asks};
 use crate::calls::{ask, run};
 use crate::columns::{expect_number, small_number_at, step_at};
 use crate::halt::Halt;
-use crate::records::{Record, records_of};
+use crate::records::StoredRow;
 use kept_rows::{RaiseRow, RaiseRows};
 use office_base::{ProgId, step_number};
 use sqlite::{Alter, Row, Transaction, params};
@@ -43,26 +43,7 @@ pub(crate) fn insert<S: Alter>(tx: &mut Transaction<'_, S>, row: RaiseRow) -> Re
     )
 }
 
-/// Returns all rows, in the order in which they were put.
-pub(crate) fn read_all<S: Alter>(
-    tx: &mut Transaction<'_, S>,
-    alloc: Global,
-) -> Result<RaiseRows, Halt>
-    ensures inside { StaysInside S.Store tx.old.conn tx.new.conn }
-    ensures acts { Acts S.Store (TellsRecords S.Store IsRaiseRow raises_query) (LosesRecords S.Store
-        IsRaiseRow raises_query) tx.old.conn tx.new.conn result }
-    ensures stands { (strict : Bool) → IsClean S.Store tx.new.conn.now
-        → tx.old.conn.now.schema ≡ stored strict → IfOk result (λ records. (all : List RaiseRow)
-        → raises_in (content S.Store tx.old.conn.now).trees ≡ Some all → all ≡ records) }
-{
-    let rows = ask(
-        tx,
-        "SELECT seq, win, prog, step, seats FROM lift ORDER BY seq",
-    )?;
-    records_of(alloc, &rows)
-}
-
-impl Record for RaiseRow {
+impl StoredRow for RaiseRow {
     ghost stands_in = { IsRaiseRow };
 
     fn from_row(row: &Row) -> Result<RaiseRow, Halt> {

@@ -1,16 +1,18 @@
 // The transactions of a keeper: what each method does to the tables, all of it or nothing.
-ghost use Rattle.std.specs.Prelude.{◌≡◌, ◌+◌, ◌<◌, ◌^◌, [], ◌∷◌, drop, false, Ok, Err, IsTrue, IfOk, IfErr, OnOk, OnErr, ◌⊎◌};
+ghost use Rattle.std.specs.Prelude.{Bool, ◌≡◌, ◌+◌, ◌<◌, ◌^◌, [], ◌∷◌, drop, false, Ok, Err, IsTrue, IfOk, IfErr, OnOk, OnErr, ◌⊎◌};
 ghost use Rattle.sqlite.specs.State.{IsLive, Survives};
 ghost use Rattle.sqlite.specs.Held.{state};
 ghost use Rattle.std.specs.List.{AllByRecursion};
 ghost use Rattle.stored_tables.specs.Fits.{AllotFits};
-ghost use Rattle.keeper_sqlite.specs.Inside.{Acts, FailsToSettle, IsClean, Performs, StaysInside, content, shown};
+ghost use Rattle.stored_tables.specs.Layout.{stored};
+ghost use Rattle.keeper_sqlite.specs.Inside.{Acts, AreRecords, FailsToSettle, IsClean, Performs, StaysInside, content, shown};
 ghost use Rattle.keeper_sqlite.specs.declared.halt.Halt.TheVariants.{Unfit};
 ghost use Rattle.keeper_sqlite.specs.Stops.{StopsText, LosesPhase, LosesMade, LosesOrder, LosesSeats, LosesCut, Breaks, IsBusy, Loses, LosesTables, LosesKept};
 ghost use Rattle.keeper_sqlite.specs.Commits.{CommitsNothing, CommitsOnce};
 ghost use Rattle.keeper_sqlite.specs.Kept.{Keeps, MadeBy, Looks, TellsSeason, TellsKept, TellsTables, Makes, MakesCut, ToldPhase, AreAbove, PutsText, DidAll, seat_calls, season_calls, unanswered_calls, any_row_queries, plain_calls, table_texts, season_table, phase_table, answer_table, lift_table, allot_table};
 
 use crate::halt::Halt;
+use crate::records::read_all;
 use crate::rising::are_rising;
 use crate::{allot, answer, lift, phase, season, tables};
 use kept_rows::{AllotRow, AnswerRow, Kept, RaiseRow};
@@ -250,12 +252,27 @@ fn read_kept<S: Alter>(tx: &mut Transaction<'_, S>, alloc: Global, cuts: u16) ->
     ensures cuts { IfOk result (λ kept. kept.cuts ≡ cuts) }
     ensures acts { Acts S.Store (TellsTables S.Store) (LosesTables S.Store) tx.old.conn tx.new.conn
         result }
+    ensures stands { (strict : Bool) → IsClean S.Store tx.new.conn.now
+        → tx.old.conn.now.schema ≡ stored strict
+        → IfOk result (AreRecords (content S.Store tx.old.conn.now).trees) }
 {
     Ok(Kept {
         season: season::read_text(tx, alloc)?,
-        answers: answer::read_all(tx, alloc)?,
-        raises: lift::read_all(tx, alloc)?,
-        allots: allot::read_all(tx, alloc)?,
+        answers: read_all(
+            tx,
+            alloc,
+            "SELECT seq, win, cand, turn, choice FROM answer ORDER BY seq",
+        )?,
+        raises: read_all(
+            tx,
+            alloc,
+            "SELECT seq, win, prog, step, seats FROM lift ORDER BY seq",
+        )?,
+        allots: read_all(
+            tx,
+            alloc,
+            "SELECT rnd, cand, prog, step FROM allot ORDER BY rnd, cand",
+        )?,
         cuts,
     })
 }

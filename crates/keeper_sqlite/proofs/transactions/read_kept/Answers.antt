@@ -1,7 +1,9 @@
 use Rattle.keeper_sqlite.proofs.LossLemmas.{answers_lost, raises_lost, allots_lost}
-use Rattle.std.proofs.Common.{inl}
+use Rattle.std.proofs.Common.{inl, refl}
 use Rattle.std.proofs.lemmas.Result.{err_from_is_err_and}
 use Rattle.keeper_sqlite.proofs.CallLemmas.{tables_told}
+use Rattle.keeper_sqlite.proofs.LookLemmas.{tables_loaded}
+use Rattle.sqlite.specs.Held.{state}
 use Rattle.keeper_sqlite.proofs.transactions.read_kept.Goals as goal
 
 pub returns-clause-acts : goal.returns-clause-acts
@@ -34,3 +36,8 @@ returns-in_err-read_all-3-clause-acts g c =
       lost = λ clean. (allots_lost g.S.Store _ _ _ _ c.args.tx.now.conn.now c.read_text.new.tx.conn.now c.read_all.new.tx.conn.now c.read_all-2.new.tx.conn.now c.read_all-3.new.tx.conn.now c.read_all.ensures.inside.1 c.read_all-2.ensures.inside.1 c.read_all-3.ensures.inside.1
           c.in_ok-read_text.ensures.acts.done c.in_ok-read_all.ensures.acts.done c.in_ok-read_all-2.ensures.acts.done clean (c.in_err-read_all-3.ensures.acts.lost clean));
     })
+
+pub returns-clause-stands : goal.returns-clause-stands
+returns-clause-stands g c = λ strict clean has. tables_loaded g.S.Store strict _ (state g.S.Store c.args.tx.now.conn.now).now c.args.tx.now.conn.now c.read_all-3.new.tx.conn.now refl has
+    (tables_told g.S.Store _ c.args.tx.now.conn.now c.read_text.new.tx.conn.now c.read_all.new.tx.conn.now c.read_all-2.new.tx.conn.now c.read_all-3.new.tx.conn.now
+    c.read_all.ensures.inside.1 c.read_all-2.ensures.inside.1 c.read_all-3.ensures.inside.1 c.in_ok-read_text.ensures.acts.done c.in_ok-read_all.ensures.acts.done c.in_ok-read_all-2.ensures.acts.done c.in_ok-read_all-3.ensures.acts.done clean)

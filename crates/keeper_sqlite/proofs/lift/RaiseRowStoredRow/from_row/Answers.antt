@@ -1,5 +1,5 @@
 use Rattle.std.proofs.lemmas.Result.{err_from_is_err_and}
-use Rattle.keeper_sqlite.proofs.lift.RaiseRowRecord.from_row.Goals as goal
+use Rattle.keeper_sqlite.proofs.lift.RaiseRowStoredRow.from_row.Goals as goal
 
 pub returns-in_err-small_number_at-clause-err : goal.returns-in_err-small_number_at-clause-err
 returns-in_err-small_number_at-clause-err c =
