@@ -1,3 +1,4 @@
+pub mod ActLemmas
 pub mod CallLemmas
 pub mod CommitLemmas
 pub mod KeeperLemmas

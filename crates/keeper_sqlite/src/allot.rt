@@ -27,6 +27,7 @@ use sqlite::{Alter, Row, Statement, Transaction, params};
 use std::alloc::Global;
 
 /// Puts rows, by one statement that is made ready once.
+#[tactic(auto, using(crate::proofs::ActLemmas::acts_broken, crate::proofs::StopLemmas::stops_more))]
 pub(crate) fn insert_all<S: Alter>(
     tx: &mut Transaction<'_, S>,
     rows: &[AllotRow],
@@ -85,6 +86,7 @@ fn insert_one<S: Alter>(
 }
 
 /// Returns the last key by round and candidate, if the table has a row.
+#[tactic(auto, using(crate::proofs::ActLemmas::acts_broken))]
 pub(crate) fn last_key<S: Alter>(tx: &mut Transaction<'_, S>) -> Result<Option<Key>, Halt>
     ensures inside { StaysInside S.Store tx.old.conn tx.new.conn }
     ensures acts { Acts S.Store (λ last old new. (rows : List Values) × TellsKey rows last × DidAll

@@ -22,6 +22,7 @@ pub(crate) enum Act<'a> {
 }
 
 /// Performs the acts, one after another.
+#[tactic(auto, using(crate::proofs::ActLemmas::acts_broken, crate::proofs::StopLemmas::one_lost))]
 pub(crate) fn perform<S: Alter>(tx: &mut Transaction<'_, S>, acts: &[Act<'_>]) -> Result<(), Halt>
     ensures inside { StaysInside S.Store tx.old.conn tx.new.conn }
     ensures acts { Performs S.Store (map call_of acts.now) tx.old.conn tx.new.conn result }
@@ -43,6 +44,7 @@ fn perform_one<S: Alter>(tx: &mut Transaction<'_, S>, act: Act<'_>) -> Result<()
 }
 
 /// Runs a statement.
+#[tactic(auto, using(crate::proofs::OpenLemmas::run_nothing))]
 pub(crate) fn run<S: Alter>(
     tx: &mut Transaction<'_, S>,
     text: &str,
@@ -58,6 +60,7 @@ pub(crate) fn run<S: Alter>(
 }
 
 /// Runs a statement that must change one row.
+#[tactic(auto, using(crate::proofs::OpenLemmas::run_nothing))]
 pub(crate) fn place<S: Alter>(
     tx: &mut Transaction<'_, S>,
     text: &str,
@@ -75,6 +78,7 @@ pub(crate) fn place<S: Alter>(
 }
 
 /// Asks a query that takes no values.
+#[tactic(auto, using(crate::proofs::ActLemmas::acts_broken))]
 pub(crate) fn ask<S: Alter>(tx: &mut Transaction<'_, S>, text: &str) -> Result<Vec<Row>, Halt>
     ensures inside { StaysInside S.Store tx.old.conn tx.new.conn }
     ensures acts { Acts S.Store (λ rows. DidAll S.Store (Asks text.now rows.items ∷ [])) (λ halt old
@@ -86,6 +90,7 @@ pub(crate) fn ask<S: Alter>(tx: &mut Transaction<'_, S>, text: &str) -> Result<V
 }
 
 /// Tests that a query returns no row.
+#[tactic(auto, using(crate::proofs::ActLemmas::acts_broken, crate::proofs::StopLemmas::lost_asked))]
 fn expect_none<S: Alter>(tx: &mut Transaction<'_, S>, text: &str) -> Result<(), Halt>
     ensures inside { StaysInside S.Store tx.old.conn tx.new.conn }
     ensures acts { Performs S.Store (Asks text.now [] ∷ []) tx.old.conn tx.new.conn result }
@@ -105,6 +110,7 @@ fn expect_empty(rows: &[Row]) -> Result<(), Halt>
 }
 
 /// Makes a statement ready.
+#[tactic(auto, using(crate::proofs::ActLemmas::acts_broken))]
 pub(crate) fn make_ready<S: Alter>(
     tx: &mut Transaction<'_, S>,
     text: &str,
@@ -119,6 +125,7 @@ pub(crate) fn make_ready<S: Alter>(
 }
 
 /// Runs a statement that was made ready.
+#[tactic(auto, using(crate::proofs::OpenLemmas::run_nothing))]
 pub(crate) fn run_ready<S: Alter>(
     tx: &mut Transaction<'_, S>,
     statement: &Statement,

@@ -50,6 +50,7 @@ pub(crate) fn upsert<S: Alter>(tx: &mut Transaction<'_, S>, cuts: u16) -> Result
 }
 
 /// Returns the number of cuts, or None if there is no season.
+#[tactic(auto, using(crate::proofs::ActLemmas::acts_broken))]
 pub(crate) fn read<S: Alter>(tx: &mut Transaction<'_, S>) -> Result<Option<u16>, Halt>
     ensures inside { StaysInside S.Store tx.old.conn tx.new.conn }
     ensures acts { Acts S.Store (TellsPhaseOf S.Store) (LosesPhase S.Store) tx.old.conn tx.new.conn

@@ -26,6 +26,7 @@ pub(crate) trait StoredRow: Drop + Sized {
 }
 
 /// Returns the records of the rows that a query shows, in their order.
+#[tactic(auto, using(crate::proofs::ActLemmas::acts_broken))]
 pub(crate) fn read_all<S: Alter, R: StoredRow>(
     tx: &mut Transaction<'_, S>,
     alloc: Global,

@@ -23,6 +23,7 @@ use std::alloc::Global;
 const PART: usize = 65_536;
 
 /// Puts a text in parts, from 0, by one statement that is made ready once.
+#[tactic(auto, using(crate::proofs::ActLemmas::acts_broken, crate::proofs::StopLemmas::text_unready))]
 pub(crate) fn insert_text<S: Alter>(tx: &mut Transaction<'_, S>, text: &[u8]) -> Result<(), Halt>
     ensures inside { StaysInside S.Store tx.old.conn tx.new.conn }
     ensures acts { Acts S.Store (λ _. PutsText S.Store text_calls text.now) (StopsText S.Store
@@ -77,6 +78,7 @@ fn insert_part<S: Alter>(
 }
 
 /// Returns the parts joined, by rising part.
+#[tactic(auto, using(crate::proofs::ActLemmas::acts_broken))]
 pub(crate) fn read_text<S: Alter>(tx: &mut Transaction<'_, S>, alloc: Global) -> Result<Text, Halt>
     ensures inside { StaysInside S.Store tx.old.conn tx.new.conn }
     ensures acts { Acts S.Store (TellsText S.Store) (LosesRecords S.Store IsPartRow text_query)

@@ -140,6 +140,7 @@ pub(crate) fn has_season<S: Alter>(connection: &mut Connection<S>) -> Result<boo
     found
 }
 
+#[tactic(auto, using(crate::proofs::ActLemmas::acts_broken))]
 fn look_for_season<S: Alter>(tx: &mut Transaction<'_, S>) -> Result<bool, Halt>
     ensures inside { StaysInside S.Store tx.old.conn tx.new.conn }
     ensures acts { Acts S.Store (TellsSeason S.Store) (LosesPhase S.Store) tx.old.conn tx.new.conn
@@ -148,6 +149,7 @@ fn look_for_season<S: Alter>(tx: &mut Transaction<'_, S>) -> Result<bool, Halt>
     Ok(phase::read(tx)?.is_some())
 }
 
+#[tactic(auto, using(crate::proofs::ActLemmas::acts_broken, crate::proofs::StopLemmas::season_stops))]
 fn write_season<S: Alter>(tx: &mut Transaction<'_, S>, text: &[u8]) -> Result<(), Halt>
     ensures inside { StaysInside S.Store tx.old.conn tx.new.conn }
     ensures acts { Acts S.Store (λ _. PutsText S.Store season_calls text.now) (StopsText S.Store
@@ -158,6 +160,7 @@ fn write_season<S: Alter>(tx: &mut Transaction<'_, S>, text: &[u8]) -> Result<()
     phase::insert(tx)
 }
 
+#[tactic(auto, using(crate::proofs::ActLemmas::acts_broken))]
 fn write_cut<S: Alter>(tx: &mut Transaction<'_, S>, rows: &[AllotRow]) -> Result<(), Halt>
     ensures inside { StaysInside S.Store tx.old.conn tx.new.conn }
     ensures acts { Acts S.Store (λ _. MakesCut S.Store rows.now) (LosesCut S.Store rows.now)
@@ -169,6 +172,7 @@ fn write_cut<S: Alter>(tx: &mut Transaction<'_, S>, rows: &[AllotRow]) -> Result
 }
 
 /// Returns how many cuts were made. A season must be kept.
+#[tactic(auto, using(crate::proofs::ActLemmas::acts_broken))]
 fn read_made<S: Alter>(tx: &mut Transaction<'_, S>) -> Result<u16, Halt>
     ensures inside { StaysInside S.Store tx.old.conn tx.new.conn }
     ensures acts { Acts S.Store (ToldPhase S.Store) (LosesMade S.Store) tx.old.conn tx.new.conn
@@ -178,6 +182,7 @@ fn read_made<S: Alter>(tx: &mut Transaction<'_, S>) -> Result<u16, Halt>
 }
 
 /// Tests that the rows rise above the last that is kept.
+#[tactic(auto, using(crate::proofs::ActLemmas::acts_broken))]
 fn expect_above<S: Alter>(tx: &mut Transaction<'_, S>, rows: &[AllotRow]) -> Result<(), Halt>
     ensures inside { StaysInside S.Store tx.old.conn tx.new.conn }
     ensures acts { Acts S.Store (λ _. AreAbove S.Store rows.now) (LosesOrder S.Store rows.now)
@@ -198,6 +203,7 @@ fn one_more(made: u16) -> Result<u16, Halt>
 }
 
 /// Puts the rows, and one cut more than were made.
+#[tactic(auto, using(crate::proofs::ActLemmas::acts_broken))]
 fn put_seats<S: Alter>(
     tx: &mut Transaction<'_, S>,
     made: u16,
@@ -236,6 +242,7 @@ pub(crate) fn load<S: Alter>(
     found
 }
 
+#[tactic(auto, using(crate::proofs::ActLemmas::acts_broken))]
 fn read_records<S: Alter>(tx: &mut Transaction<'_, S>, alloc: Global) -> Result<Option<Kept>, Halt>
     ensures inside { StaysInside S.Store tx.old.conn tx.new.conn }
     ensures acts { Acts S.Store (TellsKept S.Store) (LosesKept S.Store) tx.old.conn tx.new.conn
@@ -247,6 +254,7 @@ fn read_records<S: Alter>(tx: &mut Transaction<'_, S>, alloc: Global) -> Result<
     }
 }
 
+#[tactic(auto, using(crate::proofs::ActLemmas::acts_broken))]
 fn read_kept<S: Alter>(tx: &mut Transaction<'_, S>, alloc: Global, cuts: u16) -> Result<Kept, Halt>
     ensures inside { StaysInside S.Store tx.old.conn tx.new.conn }
     ensures cuts { IfOk result (λ kept. kept.cuts ≡ cuts) }

@@ -1,5 +1,5 @@
+use Rattle.keeper_sqlite.proofs.ActLemmas.{acts_broken}
 use Rattle.keeper_sqlite.proofs.StopLemmas.{one_stop, one_lost}
-use Rattle.std.proofs.lemmas.Result.{err_from_is_err_and}
 use Rattle.std.proofs.Common.{◌∙◌}
 use Rattle.keeper_sqlite.proofs.CallLemmas.{one_made, fit_more}
 use Rattle.keeper_sqlite.proofs.CommitLemmas.{nothing_then}
@@ -17,6 +17,4 @@ loop-row-preserved g c = (
 )
 
 pub returns-in_err-insert_one-clause-acts : goal.returns-in_err-insert_one-clause-acts
-returns-in_err-insert_one-clause-acts g c =
-    let p = err_from_is_err_and c.from_residual.result c.from_residual.ensures.1 in
-    rw (p.1, p.2) (record { done = λ _. tt; lost = λ clean. one_lost g.S.Store (λ row. Runs c.args.insert.now.text (allot_values row)) c.args.rows.now c.loop-row.row-index _ _ c.args.tx.now.conn.now c.loop-row.tx.conn.now c.insert_one.new.tx.conn.now c.loop-row-test.true c.insert_one.ensures.inside.1 c.loop-row.invariant.3 clean (c.in_err-insert_one.ensures.acts.lost clean) })
+returns-in_err-insert_one-clause-acts g c = acts_broken g.S.Store _ _ c.from_residual.result _ c.from_residual.ensures.1 (λ clean. one_lost g.S.Store (λ row. Runs c.args.insert.now.text (allot_values row)) c.args.rows.now c.loop-row.row-index _ _ c.args.tx.now.conn.now c.loop-row.tx.conn.now c.insert_one.new.tx.conn.now c.loop-row-test.true c.insert_one.ensures.inside.1 c.loop-row.invariant.3 clean (c.in_err-insert_one.ensures.acts.lost clean))

@@ -2,8 +2,7 @@ use Rattle.keeper_sqlite.proofs.MeaningLemmas.{key_stands}
 use Rattle.keeper_sqlite.proofs.StopLemmas.{rows_lost}
 use Rattle.keeper_sqlite.specs.declared.rising.Key.{Key}
 use Rattle.keeper_sqlite.specs.Kept.{key_query}
-use Rattle.std.proofs.Common.{inl, Option}
-use Rattle.std.proofs.lemmas.Result.{err_from_is_err_and}
+use Rattle.std.proofs.Common.{Option}
 use Rattle.keeper_sqlite.specs.Columns.{TellsKey}
 use Rattle.keeper_sqlite.proofs.CallLemmas.{told_as}
 use Rattle.keeper_sqlite.proofs.allot.last_key.Goals as goal
@@ -13,11 +12,6 @@ returns-clause-acts g c = record {
   done = told_as g.S.Store _ _ _ TellsKey c.args.tx.now.conn.now c.ask.new.tx.conn.now c.first_key.result c.deref.ensures.value c.in_ok-ask.ensures.acts.done c.first_key.ensures.ok;
   lost = rows_lost g.S.Store key_query (λ rows. (found : Option Key) → ¬ TellsKey rows found) _ _ c.args.tx.now.conn.now c.ask.new.tx.conn.now c.first_key.result c.deref.ensures.value c.in_ok-ask.ensures.acts.done c.first_key.ensures.err;
 }
-
-pub returns-in_err-ask-clause-acts : goal.returns-in_err-ask-clause-acts
-returns-in_err-ask-clause-acts g c =
-    let p = err_from_is_err_and c.from_residual.result c.from_residual.ensures.1 in
-    rw (p.1, p.2) (record { done = λ _. tt; lost = λ clean. inl (c.in_err-ask.ensures.acts.lost clean) })
 
 pub returns-clause-stands : goal.returns-clause-stands
 returns-clause-stands g c = λ strict clean has. key_stands g.S.Store strict c.args.tx.now.conn.now c.ask.new.tx.conn.now c.first_key.result has

@@ -1,4 +1,3 @@
-use Rattle.std.proofs.lemmas.Result.{err_from_is_err_and}
 use Rattle.std.proofs.Common.{refl}
 use Rattle.keeper_sqlite.proofs.OpenLemmas.{ask_nothing}
 use Rattle.keeper_sqlite.proofs.calls.ask.Goals as goal
@@ -14,8 +13,3 @@ returns-in_err-query_all-clause-inside g c = (c.query_all.ensures.same_reference
 
 pub returns-clause-inside : goal.returns-clause-inside
 returns-clause-inside g c = (c.query_all.ensures.same_reference, ask_nothing g.S.Store _ _ (λ rows. rows.items) c.args.tx.now.conn.now c.query_all.new.self.conn.now c.query_all.result c.query_all.ensures.ok c.query_all.ensures.err c.query_all.ensures.survives)
-
-pub returns-in_err-query_all-clause-acts : goal.returns-in_err-query_all-clause-acts
-returns-in_err-query_all-clause-acts g c =
-    let p = err_from_is_err_and c.from_residual.result c.from_residual.ensures.1 in
-    rw (p.1, p.2) (record { done = λ _. tt; lost = λ clean. (_, refl, c.in_err-query_all.ensures.err clean) })

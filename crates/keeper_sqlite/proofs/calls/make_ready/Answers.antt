@@ -1,5 +1,4 @@
-use Rattle.std.proofs.lemmas.Result.{err_from_is_err_and}
-use Rattle.std.proofs.Common.{◌≡◌, refl, inl}
+use Rattle.std.proofs.Common.{◌≡◌, refl}
 use Rattle.keeper_sqlite.proofs.OpenLemmas.{ready_nothing}
 use Rattle.keeper_sqlite.proofs.calls.make_ready.Goals as goal
 
@@ -16,8 +15,3 @@ returns-in_err-prepare-clause-inside g c = (c.prepare.ensures.same_reference, re
 
 pub returns-clause-inside : goal.returns-clause-inside
 returns-clause-inside g c = (c.prepare.ensures.same_reference, ready_nothing g.S.Store _ (λ s. s.text ≡ c.args.text.now) c.args.tx.now.conn.now c.prepare.new.self.conn.now c.prepare.result c.prepare.ensures.ok c.prepare.ensures.err c.prepare.ensures.survives)
-
-pub returns-in_err-prepare-clause-acts : goal.returns-in_err-prepare-clause-acts
-returns-in_err-prepare-clause-acts g c =
-    let p = err_from_is_err_and c.from_residual.result c.from_residual.ensures.1 in
-    rw (p.1, p.2) (record { done = λ _. tt; lost = λ clean. inl (_, refl, c.in_err-prepare.ensures.err clean) })

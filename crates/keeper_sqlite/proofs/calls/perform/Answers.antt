@@ -1,9 +1,8 @@
 use Rattle.std.proofs.Common.{◌∙◌}
-use Rattle.std.proofs.lemmas.Result.{err_from_is_err_and}
 use Rattle.keeper_sqlite.specs.Kept.{call_of}
 use Rattle.keeper_sqlite.proofs.CallLemmas.{one_made}
 use Rattle.keeper_sqlite.proofs.CommitLemmas.{nothing_then}
-use Rattle.keeper_sqlite.proofs.StopLemmas.{one_stop, one_lost}
+use Rattle.keeper_sqlite.proofs.StopLemmas.{one_stop}
 use Rattle.keeper_sqlite.proofs.calls.perform.Goals as goal
 
 pub loop-act-preserved : goal.loop-act-preserved
@@ -13,8 +12,3 @@ loop-act-preserved g c = (
   one_made g.S.Store call_of c.args.acts.now c.loop-act.act-index _ c.args.tx.now.conn.now c.loop-act.tx.conn.now c.perform_one.new.tx.conn.now c.loop-act-test.true c.perform_one.ensures.inside.1 c.loop-act.invariant.2 c.in_ok-perform_one.ensures.acts.done,
   one_stop g.S.Store call_of c.args.acts.now c.loop-act.act-index _ c.args.tx.now.conn.now c.loop-act.tx.conn.now c.perform_one.new.tx.conn.now c.loop-act-test.true c.perform_one.ensures.inside.1 c.loop-act.invariant.3 c.in_ok-perform_one.ensures.acts.done,
 )
-
-pub returns-in_err-perform_one-clause-acts : goal.returns-in_err-perform_one-clause-acts
-returns-in_err-perform_one-clause-acts g c =
-    let p = err_from_is_err_and c.from_residual.result c.from_residual.ensures.1 in
-    rw (p.1, p.2) (record { done = λ _. tt; lost = λ clean. one_lost g.S.Store call_of c.args.acts.now c.loop-act.act-index _ _ c.args.tx.now.conn.now c.loop-act.tx.conn.now c.perform_one.new.tx.conn.now c.loop-act-test.true c.perform_one.ensures.inside.1 c.loop-act.invariant.3 clean (c.in_err-perform_one.ensures.acts.lost clean) })

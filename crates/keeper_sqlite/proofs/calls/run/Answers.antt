@@ -1,8 +1,7 @@
+use Rattle.keeper_sqlite.proofs.ActLemmas.{acts_broken}
 use Rattle.std.proofs.Common.{inl, refl}
-use Rattle.std.proofs.lemmas.Result.{err_from_is_err_and}
 use Rattle.keeper_sqlite.proofs.StopLemmas.{refused_inside}
 use Rattle.keeper_sqlite.proofs.CallLemmas.{ran_inside}
-use Rattle.keeper_sqlite.proofs.OpenLemmas.{run_nothing}
 use Rattle.keeper_sqlite.proofs.calls.run.Goals as goal
 
 pub returns-clause-acts : goal.returns-clause-acts
@@ -11,13 +10,5 @@ returns-clause-acts g c = record {
   lost = λ _. tt;
 }
 
-pub returns-in_err-execute-clause-inside : goal.returns-in_err-execute-clause-inside
-returns-in_err-execute-clause-inside g c = (c.execute.ensures.same_reference, run_nothing g.S.Store _ _ _ _ c.execute.result c.execute.ensures.ended c.execute.ensures.runs c.execute.ensures.survives)
-
-pub returns-clause-inside : goal.returns-clause-inside
-returns-clause-inside g c = (c.execute.ensures.same_reference, run_nothing g.S.Store _ _ _ _ c.execute.result c.execute.ensures.ended c.execute.ensures.runs c.execute.ensures.survives)
-
 pub returns-in_err-execute-clause-acts : goal.returns-in_err-execute-clause-acts
-returns-in_err-execute-clause-acts g c =
-    let p = err_from_is_err_and c.from_residual.result c.from_residual.ensures.1 in
-    rw (p.1, p.2) (record { done = λ _. tt; lost = λ clean. inl (_, refl, refused_inside g.S.Store _ _ _ _ c.execute.result _ c.in_err-execute.was c.execute.ensures.ended c.execute.ensures.runs clean) })
+returns-in_err-execute-clause-acts g c = acts_broken g.S.Store _ _ c.from_residual.result _ c.from_residual.ensures.1 (λ clean. inl (_, refl, refused_inside g.S.Store _ _ _ _ c.execute.result _ c.in_err-execute.was c.execute.ensures.ended c.execute.ensures.runs clean))

@@ -2,8 +2,7 @@ use Rattle.keeper_sqlite.proofs.MeaningLemmas.{cuts_stand}
 use Rattle.keeper_sqlite.proofs.StopLemmas.{rows_lost}
 use Rattle.keeper_sqlite.specs.Columns.{TellsPhase}
 use Rattle.keeper_sqlite.specs.Kept.{phase_query}
-use Rattle.std.proofs.Common.{inl, Option, ℕ}
-use Rattle.std.proofs.lemmas.Result.{err_from_is_err_and}
+use Rattle.std.proofs.Common.{Option, ℕ}
 use Rattle.keeper_sqlite.proofs.CallLemmas.{phase_told}
 use Rattle.keeper_sqlite.proofs.phase.read.Goals as goal
 
@@ -12,11 +11,6 @@ returns-clause-acts g c = record {
   done = phase_told g.S.Store _ _ c.args.tx.now.conn.now c.ask.new.tx.conn.now c.phase_of.result c.deref.ensures.value c.in_ok-ask.ensures.acts.done c.phase_of.ensures.ok;
   lost = rows_lost g.S.Store phase_query (λ rows. (found : Option ℕ) → ¬ TellsPhase rows found) _ _ c.args.tx.now.conn.now c.ask.new.tx.conn.now c.phase_of.result c.deref.ensures.value c.in_ok-ask.ensures.acts.done c.phase_of.ensures.err;
 }
-
-pub returns-in_err-ask-clause-acts : goal.returns-in_err-ask-clause-acts
-returns-in_err-ask-clause-acts g c =
-    let p = err_from_is_err_and c.from_residual.result c.from_residual.ensures.1 in
-    rw (p.1, p.2) (record { done = λ _. tt; lost = λ clean. inl (c.in_err-ask.ensures.acts.lost clean) })
 
 pub returns-clause-stands : goal.returns-clause-stands
 returns-clause-stands g c = λ strict clean has. cuts_stand g.S.Store strict c.args.tx.now.conn.now c.ask.new.tx.conn.now c.phase_of.result has

@@ -1,5 +1,5 @@
+use Rattle.keeper_sqlite.proofs.ActLemmas.{acts_broken}
 use Rattle.keeper_sqlite.proofs.StopLemmas.{part_stop, part_lost, parts_many}
-use Rattle.std.proofs.lemmas.Result.{err_from_is_err_and}
 use Rattle.std.proofs.Common.{◌≡◌, ◌∙◌, length, arith, rules}
 use Rattle.std.proofs.lemmas.List.{nil_from_length}
 use Rattle.keeper_sqlite.proofs.CallLemmas.{part_put, text_put}
@@ -24,19 +24,9 @@ returns-clause-acts g c = record {
 }
 
 pub returns-in_err-insert_part-clause-acts : goal.returns-in_err-insert_part-clause-acts
-returns-in_err-insert_part-clause-acts g c =
-    let p = err_from_is_err_and c.from_residual.result c.from_residual.ensures.1 in
-    rw (p.1, p.2) (record {
-      done = λ _. tt;
-      lost = λ clean. (part_lost g.S.Store c.args.insert.now.text c.args.text.now c.parts.rest.now c.split_at.result.0.now c.split_at.result.1.now c.parts.number _ c.args.tx.now.conn.now c.parts.tx.conn.now c.insert_part.new.tx.conn.now
-          c.split_at.ensures.by_index.0 (omega (arith, c.split_at.ensures.front_len, c.min.ensures)) c.insert_part.ensures.inside.1 c.parts.invariant.3 clean (c.in_err-insert_part.ensures.acts.lost clean));
-    })
+returns-in_err-insert_part-clause-acts g c = acts_broken g.S.Store _ _ c.from_residual.result _ c.from_residual.ensures.1 (λ clean. (part_lost g.S.Store c.args.insert.now.text c.args.text.now c.parts.rest.now c.split_at.result.0.now c.split_at.result.1.now c.parts.number _ c.args.tx.now.conn.now c.parts.tx.conn.now c.insert_part.new.tx.conn.now
+    c.split_at.ensures.by_index.0 (omega (arith, c.split_at.ensures.front_len, c.min.ensures)) c.insert_part.ensures.inside.1 c.parts.invariant.3 clean (c.in_err-insert_part.ensures.acts.lost clean)))
 
 pub returns-in_err-number-clause-acts : goal.returns-in_err-number-clause-acts
-returns-in_err-number-clause-acts g c =
-    let p = err_from_is_err_and c.from_residual-in_err-number.result c.from_residual-in_err-number.ensures.1 in
-    rw (p.1, p.2) (record {
-      done = λ _. tt;
-      lost = λ clean. (parts_many g.S.Store c.args.insert.now.text c.args.text.now c.parts.rest.now c.split_at.result.0.now c.split_at.result.1.now c.parts.number _ c.args.tx.now.conn.now c.parts.tx.conn.now c.insert_part.new.tx.conn.now
-          c.split_at.ensures.by_index.0 (omega (arith, c.split_at.ensures.front_len, c.min.ensures)) c.insert_part.ensures.inside.1 c.parts.invariant.3 clean c.in_err-number.ensures.err);
-    })
+returns-in_err-number-clause-acts g c = acts_broken g.S.Store _ _ c.from_residual-in_err-number.result _ c.from_residual-in_err-number.ensures.1 (λ clean. (parts_many g.S.Store c.args.insert.now.text c.args.text.now c.parts.rest.now c.split_at.result.0.now c.split_at.result.1.now c.parts.number _ c.args.tx.now.conn.now c.parts.tx.conn.now c.insert_part.new.tx.conn.now
+    c.split_at.ensures.by_index.0 (omega (arith, c.split_at.ensures.front_len, c.min.ensures)) c.insert_part.ensures.inside.1 c.parts.invariant.3 clean c.in_err-number.ensures.err))

@@ -1,6 +1,6 @@
+use Rattle.keeper_sqlite.proofs.ActLemmas.{broken}
 use Rattle.keeper_sqlite.proofs.LossLemmas.{change_lost}
 use Rattle.keeper_sqlite.specs.Stops.{Breaks, Loses}
-use Rattle.std.proofs.lemmas.Result.{err_from_is_err_and}
 use Rattle.std.proofs.Common.{◌≡◌, false, sym, OnOk, OnErr, IsTrue, subst, rules, refl, arith, inl, IfErr}
 use Rattle.sqlite.specs.State.{HasCleanDisk, IsLive, Survives}
 use Rattle.sqlite.specs.Held.{state}
@@ -54,9 +54,7 @@ returns-clause-stays_err g c =
     c.at_rest.ensures.live live c.write-done.ensures.inside.1 (c.at_rest.ensures.settled (search rules)) (after c.settle-ended.ensures.ended.0) (λ sound. omega (arith, sound, c.settle-ended.ensures.shown.clean)) c.settle-ended.ensures.back)
 
 pub returns-in_err-expect_free-clause-lost : goal.returns-in_err-expect_free-clause-lost
-returns-in_err-expect_free-clause-lost g c = λ clean.
-    let p = err_from_is_err_and c.from_residual.result c.from_residual.ensures.1 in
-    rw (p.1, p.2) (inl c.in_err-expect_free.ensures.err)
+returns-in_err-expect_free-clause-lost g c = λ clean. broken _ c.from_residual.result _ c.from_residual.ensures.1 (inl c.in_err-expect_free.ensures.err)
 
 pub returns-clause-lost : goal.returns-clause-lost
 returns-clause-lost g c =

@@ -1,6 +1,6 @@
+use Rattle.keeper_sqlite.proofs.ActLemmas.{broken}
 use Rattle.keeper_sqlite.proofs.LossLemmas.{look_lost}
 use Rattle.keeper_sqlite.specs.Stops.{IsBusy, LosesKept}
-use Rattle.std.proofs.lemmas.Result.{err_from_is_err_and}
 use Rattle.std.proofs.Common.{IsTrue, ◌≡◌, IfOk, subst, rules, refl, arith, false, sym, inl, IfErr, ◌⊎◌}
 use Rattle.sqlite.specs.State.{HasCleanDisk, IsLive}
 use Rattle.sqlite.specs.Held.{state}
@@ -35,9 +35,7 @@ pub returns-in_err-expect_free-clause-stays : goal.returns-in_err-expect_free-cl
 returns-in_err-expect_free-clause-stays g c = λ clean is_so. refl
 
 pub returns-in_err-expect_free-clause-lost : goal.returns-in_err-expect_free-clause-lost
-returns-in_err-expect_free-clause-lost g c = λ clean.
-    let p = err_from_is_err_and c.from_residual.result c.from_residual.ensures.1 in
-    rw (p.1, p.2) (inl c.in_err-expect_free.ensures.err)
+returns-in_err-expect_free-clause-lost g c = λ clean. broken _ c.from_residual.result _ c.from_residual.ensures.1 (inl c.in_err-expect_free.ensures.err)
 
 pub returns-clause-lost : goal.returns-clause-lost
 returns-clause-lost g c =

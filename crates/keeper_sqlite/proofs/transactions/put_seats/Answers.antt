@@ -1,7 +1,7 @@
+use Rattle.keeper_sqlite.proofs.ActLemmas.{acts_broken}
 use Rattle.keeper_sqlite.proofs.LossLemmas.{on_seats}
 use Rattle.keeper_sqlite.proofs.StopLemmas.{stops_more, later_lost}
-use Rattle.std.proofs.lemmas.Result.{err_from_is_err_and}
-use Rattle.std.proofs.Common.{[], ◌∷◌, ◌+◌, inl, inr, refl}
+use Rattle.std.proofs.Common.{[], ◌∷◌, ◌+◌, inr}
 use Rattle.keeper_sqlite.specs.Kept.{allot_text, allot_calls, cuts_text, cuts_values}
 use Rattle.keeper_sqlite.specs.Kept.Call.{Runs, Readies}
 use Rattle.keeper_sqlite.proofs.CallLemmas.{both_done}
@@ -17,12 +17,5 @@ returns-clause-acts g c = record {
       c.upsert.ensures.inside.1 c.in_ok-insert_all.ensures.acts.done (rw c.in_ok-cuts.ensures.ok.0 at c.upsert.ensures.acts.lost));
 }
 
-pub returns-in_err-cuts-clause-acts : goal.returns-in_err-cuts-clause-acts
-returns-in_err-cuts-clause-acts g c =
-    let p = err_from_is_err_and c.from_residual.result c.from_residual.ensures.1 in
-    rw (p.1, p.2) (record { done = λ _. tt; lost = λ clean. inl (c.in_err-cuts.ensures.err.0, c.in_err-cuts.ensures.err.1, refl) })
-
 pub returns-in_err-insert_all-clause-acts : goal.returns-in_err-insert_all-clause-acts
-returns-in_err-insert_all-clause-acts g c =
-    let p = err_from_is_err_and c.from_residual-in_err-insert_all.result c.from_residual-in_err-insert_all.ensures.1 in
-    rw (p.1, p.2) (record { done = λ _. tt; lost = λ clean. inr (stops_more g.S.Store (Readies allot_text ∷ allot_calls allot_text c.args.rows.now) (Runs cuts_text (cuts_values (c.args.made + 1)) ∷ []) _ c.args.tx.now.conn.now c.insert_all.new.tx.conn.now (c.in_err-insert_all.ensures.acts.lost clean)) })
+returns-in_err-insert_all-clause-acts g c = acts_broken g.S.Store _ _ c.from_residual-in_err-insert_all.result _ c.from_residual-in_err-insert_all.ensures.1 (λ clean. inr (stops_more g.S.Store (Readies allot_text ∷ allot_calls allot_text c.args.rows.now) (Runs cuts_text (cuts_values (c.args.made + 1)) ∷ []) _ c.args.tx.now.conn.now c.insert_all.new.tx.conn.now (c.in_err-insert_all.ensures.acts.lost clean)))

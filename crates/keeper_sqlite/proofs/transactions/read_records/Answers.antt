@@ -1,6 +1,5 @@
+use Rattle.keeper_sqlite.proofs.ActLemmas.{acts_broken}
 use Rattle.keeper_sqlite.proofs.LossLemmas.{tables_lost}
-use Rattle.std.proofs.Common.{inl}
-use Rattle.std.proofs.lemmas.Result.{err_from_is_err_and}
 use Rattle.keeper_sqlite.proofs.CallLemmas.{none_kept, found_kept}
 use Rattle.keeper_sqlite.proofs.transactions.read_records.Goals as goal
 
@@ -17,12 +16,5 @@ returns-in_ok-read_kept-in-Some-clause-acts g c = record {
   lost = λ _. tt;
 }
 
-pub returns-in_err-read-clause-acts : goal.returns-in_err-read-clause-acts
-returns-in_err-read-clause-acts g c =
-    let p = err_from_is_err_and c.from_residual.result c.from_residual.ensures.1 in
-    rw (p.1, p.2) (record { done = λ _. tt; lost = λ clean. inl (c.in_err-read.ensures.acts.lost clean) })
-
 pub returns-in_err-read_kept-in-Some-clause-acts : goal.returns-in_err-read_kept-in-Some-clause-acts
-returns-in_err-read_kept-in-Some-clause-acts g c =
-    let p = err_from_is_err_and c.from_residual-in_err-read_kept-in-Some.result c.from_residual-in_err-read_kept-in-Some.ensures.1 in
-    rw (p.1, p.2) (record { done = λ _. tt; lost = λ clean. tables_lost g.S.Store c.in-Some.cuts c.in_ok-read.field-0 _ c.args.tx.now.conn.now c.read.new.tx.conn.now c.read_kept.new.tx.conn.now c.in-Some.is c.read_kept.ensures.inside.1 c.in_ok-read.ensures.acts.done clean (c.in_err-read_kept-in-Some.ensures.acts.lost clean) })
+returns-in_err-read_kept-in-Some-clause-acts g c = acts_broken g.S.Store _ _ c.from_residual-in_err-read_kept-in-Some.result _ c.from_residual-in_err-read_kept-in-Some.ensures.1 (λ clean. tables_lost g.S.Store c.in-Some.cuts c.in_ok-read.field-0 _ c.args.tx.now.conn.now c.read.new.tx.conn.now c.read_kept.new.tx.conn.now c.in-Some.is c.read_kept.ensures.inside.1 c.in_ok-read.ensures.acts.done clean (c.in_err-read_kept-in-Some.ensures.acts.lost clean))

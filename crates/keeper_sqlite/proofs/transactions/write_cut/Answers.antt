@@ -1,6 +1,5 @@
+use Rattle.keeper_sqlite.proofs.ActLemmas.{acts_broken}
 use Rattle.keeper_sqlite.proofs.LossLemmas.{cut_unordered, cut_unseated}
-use Rattle.std.proofs.Common.{inl}
-use Rattle.std.proofs.lemmas.Result.{err_from_is_err_and}
 use Rattle.keeper_sqlite.proofs.CallLemmas.{cut_made}
 use Rattle.keeper_sqlite.proofs.transactions.write_cut.Goals as goal
 
@@ -12,12 +11,5 @@ returns-clause-acts g c = record {
       c.in_ok-expect_above.was c.expect_above.ensures.inside.1 c.put_seats.ensures.inside.1 c.in_ok-made.ensures.acts.done c.expect_above.ensures.acts.done c.put_seats.ensures.acts.lost;
 }
 
-pub returns-in_err-made-clause-acts : goal.returns-in_err-made-clause-acts
-returns-in_err-made-clause-acts g c =
-    let p = err_from_is_err_and c.from_residual.result c.from_residual.ensures.1 in
-    rw (p.1, p.2) (record { done = λ _. tt; lost = λ clean. inl (c.in_err-made.ensures.acts.lost clean) })
-
 pub returns-in_err-expect_above-clause-acts : goal.returns-in_err-expect_above-clause-acts
-returns-in_err-expect_above-clause-acts g c =
-    let p = err_from_is_err_and c.from_residual-in_err-expect_above.result c.from_residual-in_err-expect_above.ensures.1 in
-    rw (p.1, p.2) (record { done = λ _. tt; lost = λ clean. cut_unordered g.S.Store c.args.rows.now c.in_ok-made.made _ c.args.tx.now.conn.now c.read_made.new.tx.conn.now c.expect_above.new.tx.conn.now c.expect_above.ensures.inside.1 c.in_ok-made.ensures.acts.done clean (c.in_err-expect_above.ensures.acts.lost clean) })
+returns-in_err-expect_above-clause-acts g c = acts_broken g.S.Store _ _ c.from_residual-in_err-expect_above.result _ c.from_residual-in_err-expect_above.ensures.1 (λ clean. cut_unordered g.S.Store c.args.rows.now c.in_ok-made.made _ c.args.tx.now.conn.now c.read_made.new.tx.conn.now c.expect_above.new.tx.conn.now c.expect_above.ensures.inside.1 c.in_ok-made.ensures.acts.done clean (c.in_err-expect_above.ensures.acts.lost clean))

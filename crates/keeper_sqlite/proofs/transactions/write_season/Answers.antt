@@ -1,6 +1,6 @@
+use Rattle.keeper_sqlite.proofs.ActLemmas.{acts_broken}
 use Rattle.keeper_sqlite.proofs.LossLemmas.{opening_lost}
-use Rattle.keeper_sqlite.proofs.StopLemmas.{season_unasked, season_stops}
-use Rattle.std.proofs.lemmas.Result.{err_from_is_err_and}
+use Rattle.keeper_sqlite.proofs.StopLemmas.{season_unasked}
 use Rattle.keeper_sqlite.proofs.CallLemmas.{season_put}
 use Rattle.keeper_sqlite.proofs.transactions.write_season.Goals as goal
 
@@ -13,11 +13,4 @@ returns-clause-acts g c = record {
 }
 
 pub returns-in_err-expect_empty-clause-acts : goal.returns-in_err-expect_empty-clause-acts
-returns-in_err-expect_empty-clause-acts g c =
-    let p = err_from_is_err_and c.from_residual.result c.from_residual.ensures.1 in
-    rw (p.1, p.2) (record { done = λ _. tt; lost = λ clean. season_unasked g.S.Store c.args.text.now _ c.args.tx.now.conn.now c.expect_empty.new.tx.conn.now (c.in_err-expect_empty.ensures.acts.lost clean) })
-
-pub returns-in_err-insert_text-clause-acts : goal.returns-in_err-insert_text-clause-acts
-returns-in_err-insert_text-clause-acts g c =
-    let p = err_from_is_err_and c.from_residual-in_err-insert_text.result c.from_residual-in_err-insert_text.ensures.1 in
-    rw (p.1, p.2) (record { done = λ _. tt; lost = λ clean. season_stops g.S.Store c.args.text.now _ c.args.tx.now.conn.now c.expect_empty.new.tx.conn.now c.insert_text.new.tx.conn.now c.insert_text.ensures.inside.1 c.in_ok-expect_empty.ensures.acts.done clean (c.in_err-insert_text.ensures.acts.lost clean) })
+returns-in_err-expect_empty-clause-acts g c = acts_broken g.S.Store _ _ c.from_residual.result _ c.from_residual.ensures.1 (λ clean. season_unasked g.S.Store c.args.text.now _ c.args.tx.now.conn.now c.expect_empty.new.tx.conn.now (c.in_err-expect_empty.ensures.acts.lost clean))

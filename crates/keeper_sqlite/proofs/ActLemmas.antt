@@ -1,0 +1,18 @@
+-- What comes of a function whose last call did not complete.
+use Rattle.std.proofs.Common.{◌≡◌, Result, Ok, Err, IfErr, IsErrAnd, sym, subst}
+use Rattle.std.specs.Borrow.{MutBor}
+use Rattle.sqlite.specs.Store.{Ghosts}
+use Rattle.sqlite.specs.State.{HasCleanDisk}
+use Rattle.sqlite.specs.Held.{Held, state}
+use Rattle.keeper_sqlite.specs.Inside.{Acts}
+use Rattle.keeper_sqlite.specs.declared.halt.Halt.{Halt}
+
+-- the cause is handed on
+pub broken : {X : Type 0} (P : Halt → Type 0) (r : Result X Halt) (halt : Halt) → IsErrAnd r (λ e. e ≡ halt) → P halt → IfErr r P
+broken P (Ok value) halt is why = tt
+broken P (Err e) halt is why = subst P (sym is) why
+
+pub acts_broken : {S X : Type 0} (g : Ghosts S) {Done : X → Held S → Held S → Type 0} {Breaks : Halt → Held S → Held S → Type 0} (old new : MutBor (Held S)) (r : Result X Halt) (halt : Halt) → IsErrAnd r (λ e. e ≡ halt)
+    → (HasCleanDisk (state g new.now) → Breaks halt old.now new.now) → Acts g Done Breaks old new r
+acts_broken g old new (Ok value) halt is why = absurd is
+acts_broken g {Breaks = Breaks} old new (Err e) halt is why = record { done = λ _. tt; lost = λ clean. subst (λ (h : Halt). Breaks h old.now new.now) (sym is) (why clean) }
