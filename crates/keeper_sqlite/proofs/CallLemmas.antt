@@ -48,11 +48,6 @@ placed_inside g text values old new (Ok other) count is one ended runs clean =
     let same : other ≡ 1 = (let e = is in let f = one in cc) in
     (new, subst (λ (n : ℕ). Executes text values (state g old) (state g new) (Ok n)) same (runs clean inside).0, refl)
 
-pub placed_values : {S : Type 0} (g : Ghosts S) (text : List ℕ) (one two : Row) (old new : Held S) (done : Result (Unit {0}) Halt) → (HasCleanDisk (state g new) → OnOk done (DidAll g (Places text one ∷ []) old new))
-    → one ≡ two → HasCleanDisk (state g new) → OnOk done (DidAll g (Places text two ∷ []) old new)
-placed_values g text one two old new (Err halt) ran is clean = tt
-placed_values {S} g text one two old new (Ok none) ran is clean = subst (λ (values : Row). DidAll g (Places text values ∷ []) old new) is (ran clean)
-
 -- one list of calls after another
 pub did_then : {S : Type 0} (g : Ghosts S) (one two : List Call) (old mid new : Held S) → DidAll g one old mid → DidAll g two mid new → DidAll g (one ++ two) old new
 did_then {S} g [] two old mid new first next = subst (λ (h : Held S). DidAll g two h new) (sym first) next
@@ -102,12 +97,6 @@ cut_made g rows count old one two new made above (Ok none) is_made is_above firs
     let was : HasCleanDisk (state g two) = omega (arith, next.survives.clean) in
     let before : HasCleanDisk (state g one) = omega (arith, was, first.survives.clean) in
     record { made = count; asked = one; tested = two; phase = rw is_made at (phase before); above = rw is_above at (keys was); put = puts clean; fit = fit; room = room }
-
--- the same statement with the same values
-pub with_values : {S : Type 0} (g : Ghosts S) (text : List ℕ) (one two : Row) (old new : Held S) (done : Result (Unit {0}) Halt) → (HasCleanDisk (state g new) → OnOk done (DidAll g (Runs text one ∷ []) old new))
-    → one ≡ two → HasCleanDisk (state g new) → OnOk done (DidAll g (Runs text two ∷ []) old new)
-with_values g text one two old new (Err halt) ran is clean = tt
-with_values {S} g text one two old new (Ok none) ran is clean = subst (λ (values : Row). DidAll g (Runs text values ∷ []) old new) is (ran clean)
 
 -- the rows that a query returned, as they were read
 pub told_as : {S A : Type 0} (g : Ghosts S) (text : List ℕ) (rows seen : List Row) (P : List Row → A → Type 0) (old new : Held S) (ended : Result A Halt) → seen ≡ rows

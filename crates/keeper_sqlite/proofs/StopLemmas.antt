@@ -54,17 +54,6 @@ module _ {S : Type 0} (g : Ghosts S) where
   later_lost one two old mid new (Ok value) nothing did lost clean = tt
   later_lost one two old mid new (Err halt) nothing did lost clean = second_lost one two halt old mid new nothing did clean (lost clean)
 
-  -- the same calls with the same values
-  pub lost_values : (text : List ℕ) (one two : Row) (old new : Held S) (ended : Result (Unit {0}) Halt) → (HasCleanDisk (state g new) → IfErr ended (λ halt. StopsIn g (Runs text one ∷ []) halt old new)) → one ≡ two
-      → HasCleanDisk (state g new) → IfErr ended (λ halt. StopsIn g (Runs text two ∷ []) halt old new)
-  lost_values text one two old new (Ok none) lost is clean = tt
-  lost_values text one two old new (Err halt) lost is clean = subst (λ (values : Row). StopsIn g (Runs text values ∷ []) halt old new) is (lost clean)
-
-  pub lost_placing : (text : List ℕ) (one two : Row) (old new : Held S) (ended : Result (Unit {0}) Halt) → (HasCleanDisk (state g new) → IfErr ended (λ halt. StopsIn g (Places text one ∷ []) halt old new)) → one ≡ two
-      → HasCleanDisk (state g new) → IfErr ended (λ halt. StopsIn g (Places text two ∷ []) halt old new)
-  lost_placing text one two old new (Ok none) lost is clean = tt
-  lost_placing text one two old new (Err halt) lost is clean = subst (λ (values : Row). StopsIn g (Places text values ∷ []) halt old new) is (lost clean)
-
   -- it changed another number of rows than one
   pub lost_place : (text : List ℕ) (values : Row) (old new : Held S) (done : Result ℕ Error) (count : ℕ) → done ≡ Ok count → count ≢ 1
       → ((state g old).in_transaction ≡ false → (done ≡ Err (SqliteFailure TransactionState)) × (new ≡ old))

@@ -1,17 +1,14 @@
+use Rattle.keeper_sqlite.proofs.ActLemmas.{same_values}
 use Rattle.keeper_sqlite.proofs.MeaningLemmas.{allot_put}
-use Rattle.keeper_sqlite.proofs.StopLemmas.{lost_values}
-use Rattle.std.proofs.Common.{rules}
 use Rattle.keeper_sqlite.specs.Kept.{allot_values}
-use Rattle.keeper_sqlite.proofs.CallLemmas.{with_values}
+use Rattle.keeper_sqlite.specs.Kept.Call.{Runs}
+use Rattle.std.proofs.Common.{rules}
 use Rattle.keeper_sqlite.proofs.allot.insert_one.Goals as goal
 
 pub returns-clause-acts : goal.returns-clause-acts
-returns-clause-acts g c = record {
-  done = with_values g.S.Store c.args.insert.now.text _ (allot_values c.args.row) c.args.tx.now.conn.now c.run_ready.new.tx.conn.now c.run_ready.result c.run_ready.ensures.acts.done (search rules);
-  lost = lost_values g.S.Store c.args.insert.now.text _ (allot_values c.args.row) c.args.tx.now.conn.now c.run_ready.new.tx.conn.now c.run_ready.result c.run_ready.ensures.acts.lost (search rules);
-}
+returns-clause-acts g c = same_values g.S.Store (Runs c.args.insert.now.text) _ (allot_values c.args.row) c.args.tx.now.conn c.run_ready.new.tx.conn c.run_ready.result (search rules) c.run_ready.ensures.acts
 
 pub returns-clause-put : goal.returns-clause-put
 returns-clause-put g c = λ strict clean has is.
-    allot_put g.S.Store strict c.args.insert.now.text c.args.row c.args.tx.now.conn.now c.run_ready.new.tx.conn.now c.run_ready.result is (record { round = search rules; cand = search rules; prog = search rules }) has
-    (with_values g.S.Store c.args.insert.now.text _ (allot_values c.args.row) c.args.tx.now.conn.now c.run_ready.new.tx.conn.now c.run_ready.result c.run_ready.ensures.acts.done (search rules)) clean
+    let acts = same_values g.S.Store (Runs c.args.insert.now.text) _ (allot_values c.args.row) c.args.tx.now.conn c.run_ready.new.tx.conn c.run_ready.result (search rules) c.run_ready.ensures.acts in
+    allot_put g.S.Store strict c.args.insert.now.text c.args.row c.args.tx.now.conn.now c.run_ready.new.tx.conn.now c.run_ready.result is (record { round = search rules; cand = search rules; prog = search rules }) has acts.done clean
