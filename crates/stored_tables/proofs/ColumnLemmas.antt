@@ -4,9 +4,9 @@ use Rattle.std.proofs.lemmas.Bool.{lt-ltb}
 use Rattle.sqlite.specs.declared.types.Value.TheVariants.{Null, Int}
 use Rattle.office_base.specs.StepNumbers.{step_number}
 use Rattle.office_base.specs.declared.asks.Choice.{Choice}
-use Rattle.office_base.specs.declared.asks.Choice.TheVariants.{Freeze, Float, Slide, Withdraw}
+use Rattle.office_base.specs.declared.asks.Choice.TheVariants.{Freeze}
 use Rattle.office_base.specs.declared.step.StepKind.{StepKind}
-use Rattle.office_base.specs.declared.step.StepKind.TheVariants.{Open, Ews, Obc, Sc, St, Dereserved}
+use Rattle.office_base.specs.declared.step.StepKind.TheVariants.{Open}
 use Rattle.kept_rows.specs.declared.rows.AnswerRow.{AnswerRow}
 use Rattle.kept_rows.specs.declared.rows.AllotRow.{AllotRow}
 use Rattle.kept_rows.specs.declared.rows.RaiseRow.{RaiseRow}
@@ -21,17 +21,11 @@ number_fits bits n fits = rw (lt-ltb n (2 ^ bits) fits)
 
 pub choice_stored : (choice : Choice) → choice_in (Int (pos (choice_number choice))) ≡ Some choice
 choice_stored Freeze = refl
-choice_stored Float = refl
-choice_stored Slide = refl
-choice_stored Withdraw = refl
+choice_stored choice = refl
 
 pub step_stored : (step : StepKind) → step_in (Int (pos (step_number step))) ≡ Some step
 step_stored Open = refl
-step_stored Ews = refl
-step_stored Obc = refl
-step_stored Sc = refl
-step_stored St = refl
-step_stored Dereserved = refl
+step_stored step = refl
 
 pub answer_stored : (row : AnswerRow) (id : ℤ) (n : ℕ) → AnswerFits row → id ≡ pos n → IsNumbered answer_of (Int id ∷ Null ∷ answer_values row) row n
 answer_stored row id n fits is = record { id = ap Int is; is = rw (number_fits 16 row.window fits.window, number_fits 32 row.cand.0 fits.cand, number_fits 16 row.turn fits.turn, choice_stored row.choice) }

@@ -6,12 +6,12 @@ use Rattle.sqlite.specs.declared.types.Value.{Value}
 use Rattle.sqlite.specs.declared.types.Value.TheVariants.{Null, Int, Real, Text, Blob}
 use Rattle.sqlite.specs.Order.{Row, column}
 use Rattle.sqlite.specs.Tree.{rowid}
-use Rattle.office_base.specs.StepNumbers.{step_number, step_of_number}
+use Rattle.office_base.specs.CategorySteps.{step_of_number}
+use Rattle.office_base.specs.StepNumbers.{step_number}
 use Rattle.office_base.specs.declared.asks.Choice.{Choice}
 use Rattle.office_base.specs.declared.asks.Choice.TheVariants.{Freeze, Float, Slide, Withdraw}
 use Rattle.office_base.specs.declared.step.StepKind.{StepKind}
-use Rattle.office_base.specs.declared.step.StepKind.TheVariants.{Open, Ews, Obc, Sc, St, Dereserved}
-use Rattle.office_base.proofs.StepNumbers.{one_number}
+use Rattle.office_base.proofs.StepNumbers.{number_at, one_number}
 use Rattle.kept_rows.specs.declared.rows.AnswerRow.{AnswerRow}
 use Rattle.kept_rows.specs.declared.rows.AllotRow.{AllotRow}
 use Rattle.kept_rows.specs.declared.rows.RaiseRow.{RaiseRow}
@@ -47,9 +47,6 @@ number_is bits (Int (pos m)) n h = elim (cases_Bool (nat_lt m (2 ^ bits))) [
 choice_from : (first choice : Choice) (n : ℕ) → ◌≡◌ {A = Option Choice} (Some first) (Some choice) → n ≡ choice_number first → choice_number choice ≡ n
 choice_from first choice n same is = ap choice_number (sym (some_value same)) ∙ sym is
 
-step_from : (first step : StepKind) (n : ℕ) → ◌≡◌ {A = Option StepKind} (Some first) (Some step) → n ≡ step_number first → step_number step ≡ n
-step_from first step n same is = ap step_number (sym (some_value same)) ∙ sym is
-
 choice_back : (n : ℕ) (choice : Choice) → choice_of n ≡ Some choice → choice_number choice ≡ n
 choice_back n choice h = elim (cases_Bool (n == 0)) [
   | inl e0 ↦ choice_from Freeze choice n (rw e0 at h) (eqb-true n 0 e0)
@@ -65,27 +62,6 @@ choice_back n choice h = elim (cases_Bool (n == 0)) [
   ]
 ]
 
-step_back : (n : ℕ) (step : StepKind) → step_of_number n ≡ Some step → step_number step ≡ n
-step_back n step h = elim (cases_Bool (n == 0)) [
-  | inl e0 ↦ step_from Open step n (rw e0 at h) (eqb-true n 0 e0)
-  | inr e0 ↦ elim (cases_Bool (n == 1)) [
-    | inl e1 ↦ step_from Ews step n (rw (e0, e1) at h) (eqb-true n 1 e1)
-    | inr e1 ↦ elim (cases_Bool (n == 2)) [
-      | inl e2 ↦ step_from Obc step n (rw (e0, e1, e2) at h) (eqb-true n 2 e2)
-      | inr e2 ↦ elim (cases_Bool (n == 3)) [
-        | inl e3 ↦ step_from Sc step n (rw (e0, e1, e2, e3) at h) (eqb-true n 3 e3)
-        | inr e3 ↦ elim (cases_Bool (n == 4)) [
-          | inl e4 ↦ step_from St step n (rw (e0, e1, e2, e3, e4) at h) (eqb-true n 4 e4)
-          | inr e4 ↦ elim (cases_Bool (n == 5)) [
-            | inl e5 ↦ step_from Dereserved step n (rw (e0, e1, e2, e3, e4, e5) at h) (eqb-true n 5 e5)
-            | inr e5 ↦ absurd (let f = rw (e0, e1, e2, e3, e4, e5) at h in cc)
-          ]
-        ]
-      ]
-    ]
-  ]
-]
-
 choice_is : (v : Value) (choice : Choice) → choice_in v ≡ Some choice → v ≡ Int (pos (choice_number choice))
 choice_is v choice h =
     let p = then_some (number_in 32 v) choice_of choice h in
@@ -94,7 +70,7 @@ choice_is v choice h =
 step_is : (v : Value) (step : StepKind) → step_in v ≡ Some step → v ≡ Int (pos (step_number step))
 step_is v step h =
     let p = then_some (number_in 32 v) step_of_number step h in
-    (number_is 32 v p.0 p.1).1 ∙ ap (λ (n : ℕ). Int (pos n)) (sym (step_back p.0 step p.2))
+    (number_is 32 v p.0 p.1).1 ∙ ap (λ (n : ℕ). Int (pos n)) (sym (number_at p.0 step p.2))
 
 bytes_is : (v : Value) (bytes : List ℕ) → bytes_in v ≡ Some bytes → v ≡ Blob bytes
 bytes_is Null bytes h = absurd (let e = h in cc)

@@ -5,7 +5,7 @@ use Rattle.sqlite.specs.declared.types.Value.{Value}
 use Rattle.sqlite.specs.declared.types.Value.TheVariants.{Int, Blob}
 use Rattle.sqlite.specs.Order.{Row, column}
 use Rattle.sqlite.specs.Tree.{Trees}
-use Rattle.office_base.specs.StepNumbers.{step_of_number}
+use Rattle.office_base.specs.CategorySteps.{step_of_number}
 use Rattle.office_base.specs.declared.asks.Choice.{Choice}
 use Rattle.office_base.specs.declared.step.StepKind.{StepKind}
 use Rattle.kept_rows.specs.declared.rows.AnswerRow.{AnswerRow}
