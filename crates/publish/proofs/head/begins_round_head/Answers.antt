@@ -24,8 +24,8 @@ returns-else-is_round c = λ known. (
   λ b. c.is_round.ensures.1 (whole-number c.args.most c.args.piece.now c.in-Some.rest.now c.in-Some.ensures.some c.in-Some-split_at_byte.number.now c.in-Some-split_at_byte.rest.now c.in-Some-split_at_byte.ensures.some c.in-Some-split_at_byte.ensures.first known b),
 )
 
-pub returns-in-None-cut : goal.returns-in-None-cut
-returns-in-None-cut c = λ known. (
+pub returns-in-None-split_at_byte : goal.returns-in-None-split_at_byte
+returns-in-None-split_at_byte c = λ known. (
   λ begins. round-from c.args.most c.args.piece.now c.in-Some.rest.now c.in-Some.ensures.some ((c.begins_number.ensures 32 (codes "seated " ++ (decimal 0 ++ 10 ∷ [])) c.in-None-split_at_byte.ensures.none).0 begins) known,
   λ b. (c.begins_number.ensures 32 (codes "seated " ++ (decimal b.count ++ 10 ∷ [])) c.in-None-split_at_byte.ensures.none).1
       (round-to c.args.most c.args.piece.now c.in-Some.rest.now c.in-Some.ensures.some known b),
