@@ -1,2 +1,3 @@
 mod Both
 mod One
+mod SingleExchanges

@@ -28,7 +28,7 @@ use Rattle.seat_matrix.proofs.Unprotected.{nobody_placed}
 use Rattle.programme_lists.specs.Programme.{Admissions, IsProgrammeChoice, admitted_by, is_of, left_by, left_over, members_by, people_of, step_of, unfilled}
 use Rattle.programme_lists.specs.Programme.{without as without_taken}
 use Rattle.open_then_category.specs.Laws.{whole_step}
-use Rattle.list_audit.specs.Laws.{SingleExchanges}
+use Rattle.axiom_laws.specs.Laws.{SingleExchanges}
 use Rattle.axiom_laws.specs.Laws.{MeetsThemAtEachStep, OneMeetsTheAxioms, OneMeetsTheAxiomsOfAStep}
 use Rattle.programme_lists.proofs.Parts.{left_part, members_part, people_part}
 

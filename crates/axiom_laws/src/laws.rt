@@ -1,11 +1,26 @@
 // The laws that the axioms name one choice alone. Each is the contract of a function that does nothing.
-ghost use Rattle.axiom_laws.specs.Laws.{AxiomsAreTheRule, OneMeetsTheAxioms, OneMeetsTheAxiomsOfAStep};
+ghost use Rattle.axiom_laws.specs.Laws.{AxiomsAreTheRule, OneMeetsTheAxioms, OneMeetsTheAxiomsOfAStep, SingleExchanges};
+
+/// Where no single exchange improves those listed, who honour as much as all people of the step, they are its choice.
+pub fn single_exchanges()
+    ensures { SingleExchanges }
+{
+    merit_choice::laws::one_too_many();
+    merit_choice::laws::refused_stays_refused();
+    merit_choice::laws::choice_exists();
+    merit_choice::laws::choice_size();
+    merit_choice::laws::seats_for_all();
+    merit_choice::laws::with_person_ranks();
+    merit_choice::laws::ranked_part();
+    merit_choice::laws::ranked_in_merit();
+    merit_choice::laws::part_can_be_ranked();
+}
 
 /// Only the choice of a step meets its axioms.
 pub fn one_meets_the_axioms_of_a_step()
     ensures { OneMeetsTheAxiomsOfAStep }
 {
-    list_audit::laws::single_exchanges();
+    single_exchanges();
     merit_choice::laws::ranked_part();
 }
 

@@ -1,6 +1,6 @@
-// That only the choice of a programme meets the axioms.
+// That only the choice of a step, and of a programme, meets the axioms, and that no single exchange improves a choice.
 //
-// Nothing uses it yet. It has no code but its laws, and knows of no round and no request.
+// The laws of cutoffs and the audit of lists build on it. It has no code but its laws, and knows of no round and no request.
 #![tactic(auto)]
 
 pub mod laws;

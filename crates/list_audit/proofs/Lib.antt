@@ -7,7 +7,6 @@ mod OneFault
 mod Parts
 mod Reckoning
 mod Rows
-mod SingleExchanges
 mod SoundLists
 mod Standing
 mod ListPlaces

@@ -17,7 +17,7 @@ use Rattle.merit_choice.specs.Needed.{AreNeeded}
 use Rattle.merit_choice.proofs.ByHand.{honoured_placed, placed_nobody}
 use Rattle.merit_choice.proofs.Needed.{apart_of, decides, needed_honoured, nobody_of, other_number, placed_part}
 use Rattle.merit_choice.proofs.OneByOne.{better_or_worse, has_number}
-use Rattle.list_audit.specs.Exchanges.{Overtakes}
+use Rattle.axiom_laws.specs.Exchanges.{Overtakes}
 use Rattle.list_audit.specs.Reckoning.{IsAhead, Reckoned}
 
 -- everybody honours as much as those listed

@@ -29,7 +29,8 @@ use Rattle.programme_lists.specs.declared.programme.Programme.{Programme}
 use Rattle.merit_choice.specs.InMerit.{InMeritRanks, RankedPart}
 use Rattle.seat_matrix.proofs.Unprotected.{none_honoured}
 use Rattle.list_audit.specs.Clauses.{IsSound, audited, list_of_step, named_by, seats_held, seats_shared}
-use Rattle.list_audit.specs.Laws.{SingleExchanges, SoundListsAreTheChoice}
+use Rattle.axiom_laws.specs.Laws.{SingleExchanges}
+use Rattle.list_audit.specs.Laws.{SoundListsAreTheChoice}
 use Rattle.list_audit.proofs.Rows.{given_by, given_first}
 use Rattle.programme_lists.proofs.Parts.{people_part}
 

@@ -18,7 +18,7 @@ use Rattle.seat_matrix.specs.declared.seats.ProgrammeSeats.{ProgrammeSeats}
 use Rattle.programme_lists.specs.Programme.{Admissions, people_of}
 use Rattle.programme_lists.specs.declared.programme.Programme.{Programme}
 use Rattle.programme_lists.specs.declared.programme.StepList.{StepList}
-use Rattle.list_audit.specs.Exchanges.{Overtakes}
+use Rattle.axiom_laws.specs.Exchanges.{Overtakes}
 use Rattle.list_audit.specs.declared.clause.Clause.{Clause}
 use Rattle.list_audit.specs.declared.clause.Clause.TheVariants.{WrongNumbers, NotCandidate, WrongSize, BadCertificate, Overtaken}
 

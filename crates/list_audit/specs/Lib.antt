@@ -1,5 +1,4 @@
 pub mod Clauses
-pub mod Exchanges
 pub mod Laws
 pub mod Names
 pub mod Outside

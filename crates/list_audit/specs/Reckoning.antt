@@ -14,7 +14,7 @@ use Rattle.placements.specs.Demand.{is_within}
 use Rattle.placements.specs.Ranks.{CanBePlaced, without}
 use Rattle.slot_matching.specs.Kept.{Kept}
 use Rattle.merit_choice.specs.Needed.{AreNeeded}
-use Rattle.list_audit.specs.Exchanges.{Overtakes}
+use Rattle.axiom_laws.specs.Exchanges.{Overtakes}
 
 -- The person is better than one of the listed who is not needed, or than one of the needed in whose place the person can be placed.
 abbrev pub IsAhead : ListId → Protections → List Person → List Person → Person → Type 0

@@ -15,7 +15,7 @@ use Rattle.programme_lists.specs.declared.programme.Programme.{Programme}
 use Rattle.programme_lists.specs.declared.programme.StepList.{StepList}
 use Rattle.seat_matrix.specs.declared.seats.ProgrammeSeats.{ProgrammeSeats}
 use Rattle.list_audit.specs.Clauses.{Audited, BreaksFirst, IsSound, audited}
-use Rattle.list_audit.specs.Exchanges.{Overtakes}
+use Rattle.axiom_laws.specs.Exchanges.{Overtakes}
 use Rattle.list_audit.specs.declared.clause.Clause.{Clause}
 use Rattle.list_audit.specs.declared.clause.Clause.TheVariants.{BadCertificate, Overtaken}
 

@@ -37,7 +37,7 @@ use Rattle.round_laws.proofs.Everybody.{own_filled}
 use Rattle.office_moves.proofs.Sums.{rows_plus, rows_same}
 use Rattle.axiom_laws.specs.Laws.{AxiomsAreTheRule, MeetsThemAtEachStep}
 use Rattle.list_audit.specs.Clauses.{HasSeats, IsSound, audited, list_of_step, named_by, no_list, shared}
-use Rattle.list_audit.specs.Exchanges.{Overtakes}
+use Rattle.axiom_laws.specs.Exchanges.{Overtakes}
 
 -- ---- the list of a step
 

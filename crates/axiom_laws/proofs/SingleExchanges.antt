@@ -19,8 +19,8 @@ use Rattle.placements.proofs.Without.{among_without, without_among, without_apar
 use Rattle.merit_choice.specs.InMerit.{PartCanBeRanked, RankedInMerit, RankedPart, WithPersonRanks}
 use Rattle.merit_choice.specs.Laws.{ChoiceExists, ChoiceSize, OneTooMany, RefusedStaysRefused, SeatsForAll}
 use Rattle.merit_choice.proofs.InMerit.{whole_sublist}
-use Rattle.list_audit.specs.Exchanges.{Overtakes}
-use Rattle.list_audit.specs.Laws.{SingleExchanges}
+use Rattle.axiom_laws.specs.Exchanges.{Overtakes}
+use Rattle.axiom_laws.specs.Laws.{SingleExchanges}
 
 -- ---- lists
 
