@@ -5,8 +5,8 @@ use Rattle.kept_rows.specs.Tables.{Tables, still}
 use Rattle.season_file.specs.declared.season.Season.{Season}
 use Rattle.office_base.specs.declared.asks.Request.{Request}
 use Rattle.season_commands.specs.Check.{bundle_answers, check_answers}
-use Rattle.generate_command.specs.Generated.{IsCountedText, IsGeneratedText}
-use Rattle.season_commands.specs.Resume.{EndsResume, IsUnresumedText, script_answers}
+use Rattle.season_commands.specs.Generated.{IsCountedText, IsGeneratedText}
+use Rattle.resume_command.specs.Resume.{EndsResume, IsUnresumedText, script_answers}
 use Rattle.season_commands.specs.Run.{EndsSeason, IsUnbegunText}
 use Rattle.season_facts.specs.Season.{facts_of}
 use Rattle.special_command.specs.Special.{EndsSpecial, IsSpecialText}

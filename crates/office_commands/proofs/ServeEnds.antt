@@ -9,7 +9,7 @@ use Rattle.office_moves.specs.History.{IsHistory}
 use Rattle.season_facts.specs.Season.{facts_of}
 use Rattle.office_moves.specs.State.{State}
 use Rattle.office_moves.specs.declared.moves.Entry.{Entry}
-use Rattle.round_cut.specs.Resume.{HoldsTheKept, IsResumed}
+use Rattle.replays.specs.Resume.{HoldsTheKept, IsResumed}
 use Rattle.round_cut.specs.declared.fault.BeginFault.{BeginFault}
 use Rattle.round_cut.specs.declared.fault.BeginFault.TheVariants.{NotEmpty}
 use Rattle.season_commands.specs.Check.{IsLeftBundle, bundle_answers}
@@ -19,7 +19,8 @@ use Rattle.command_answers.specs.Writes.{IsTextOut, status_of, text_of}
 use Rattle.command_answers.specs.declared.failure.Failure.{Failure}
 use Rattle.command_answers.specs.declared.status.Status.{Status}
 use Rattle.command_answers.proofs.Ended.{answer_is_written, told_is_written}
-use Rattle.season_commands.proofs.Still.{still_from, still_later, still_resumed}
+use Rattle.resume_command.proofs.ResumeEnds.{still_resumed}
+use Rattle.season_commands.proofs.Still.{still_from, still_later}
 use Rattle.season_commands.proofs.RunEnds.{text_of_begin}
 use Rattle.office_commands.specs.Doors.{Doors}
 use Rattle.office_commands.specs.Serve.{EndsBegun, EndsServe, EndsServeKept, EndsServed}

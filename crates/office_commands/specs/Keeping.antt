@@ -9,7 +9,7 @@ use Rattle.command_words.specs.declared.words.Command.{Command}
 use Rattle.command_words.specs.declared.words.Command.TheVariants.{Resume, Special}
 use Rattle.command_words.specs.Words.{Spell, SpellNothing, service_of}
 use Rattle.command_words.specs.declared.words.Store.{Store}
-use Rattle.season_commands.specs.Resume.{IsFaultyScript, TellsNoOffice, TellsRowFault, TellsSound, TellsTextFault}
+use Rattle.resume_command.specs.Resume.{IsFaultyScript, TellsNoOffice, TellsRowFault, TellsSound, TellsTextFault}
 use Rattle.season_commands.specs.Run.{TellsNoSeason, TellsSeason}
 use Rattle.special_command.specs.Special.{AreFaultyKeptLists, AreKeptLists}
 use Rattle.office_commands.specs.Blames.{Blames}

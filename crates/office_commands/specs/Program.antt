@@ -5,8 +5,8 @@ use Rattle.audit_command.specs.Audit.{AreDossier, AreFaultyDossier, EndsWell, Is
 use Rattle.audit_command.specs.Best.{IsBestText}
 use Rattle.command_answers.specs.Answers.{Answers, Tells}
 use Rattle.season_commands.specs.Check.{IsBundle, IsFaultyBundle, check_answers}
-use Rattle.generate_command.specs.Generated.{EndsGeneratedRun, IsGeneratedText}
-use Rattle.season_commands.specs.Resume.{EndsResume, IsScript, TellsSound}
+use Rattle.season_commands.specs.Generated.{EndsGeneratedRun, IsGeneratedText}
+use Rattle.resume_command.specs.Resume.{EndsResume, IsScript, TellsSound}
 use Rattle.season_commands.specs.Run.{EndsRun, TellsNoSeason}
 use Rattle.special_command.specs.Special.{EndsSpecial}
 use Rattle.units_command.specs.Units.{EndsUnits, IsFaultyUnits, IsUnitsInput}

@@ -16,9 +16,9 @@ use Rattle.office_moves.specs.Stands.{Stand}
 use Rattle.office_moves.specs.State.{State}
 use Rattle.office_moves.specs.declared.moves.Entry.{Entry}
 use Rattle.reply_texts.specs.Replies.{state_line}
-use Rattle.round_cut.specs.Resume.{HoldsTheKept, IsResumed}
+use Rattle.replays.specs.Resume.{HoldsTheKept, IsResumed}
 use Rattle.season_commands.specs.Check.{IsBundle, IsFaultyBundle, IsLeftBundle, bundle_answers}
-use Rattle.season_commands.specs.Resume.{EndsUnresumed}
+use Rattle.resume_command.specs.Resume.{EndsUnresumed}
 use Rattle.season_commands.specs.Outside.{EndsWith, Held, Outside, held}
 use Rattle.season_commands.specs.Run.{IsUnbegunText, TellsNoSeason, TellsSeason}
 use Rattle.command_answers.specs.Answers.{Tells}

@@ -71,8 +71,8 @@ fn made_body<K: Keeper>(
         text ≡ shown_body office.now.season office.now.state reply.now) }
 {
     let season = office.season();
-    let round = shown_round(office, reply);
-    let rows = shown_rows(office);
+    let round = shown_round(office.book(), reply);
+    let rows = shown_rows(office.book());
     reply_json(alloc, season, round, rows, reply)
 }
 

@@ -5,4 +5,6 @@ pub mod Faults
 pub mod Later
 pub mod Laws
 pub mod Replay
+pub mod Resume
 pub mod Steps
+pub mod Unresumed

@@ -8,9 +8,9 @@ ghost use Rattle.replays.specs.Steps.{IsRefusedCut};
 
 use crate::fault::ReplayFault;
 use crate::rows::next_entry;
-use next_rounds::next_round;
 use office_base::OutOfMemory;
 use proceedings::Proceedings;
+use round_cut::next_round;
 use std::alloc::Global;
 
 /// The cut publishes the next round, as entry of this number.

@@ -1,6 +1,5 @@
-mod Blaming
+pub mod Blaming
 mod Asked
 mod Counts
 mod Publishing
-mod Resumed
 pub mod Standing

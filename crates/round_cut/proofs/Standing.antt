@@ -16,7 +16,6 @@ use Rattle.rounds.specs.declared.round.Round.{Round}
 use Rattle.office_moves.specs.Facts.{SeasonFacts}
 use Rattle.office_moves.specs.Moves.{allot_rows, row_before, rows_along}
 use Rattle.office_moves.specs.Stands.{AreRecordsOf, Stand, first_allot, published_seat, raises_in}
-use Rattle.replays.proofs.Appended.{raises_append}
 use Rattle.office_moves.specs.State.{State, in_window, opening, round_at, seat_of, with_raise as state_with_raise, with_row}
 use Rattle.history_laws.proofs.Rows.{window_append}
 
@@ -89,6 +88,14 @@ stand_moved facts other state next tables same is stands = subst (λ f. Stand f 
 window_goes : (window : ℕ) (rows others : List AnswerRow) (row : AnswerRow) → in_window window rows ≡ in_window window others → in_window window (rows ++ row ∷ []) ≡ in_window window (others ++ row ∷ [])
 window_goes window rows others row same =
     window_append window rows (row ∷ []) ∙ (ap (λ z. z ++ in_window window (row ∷ [])) same ∙ sym (window_append window others (row ∷ [])))
+
+raises_append : (window : ℕ) (rows more : List RaiseRow) → raises_in window (rows ++ more) ≡ raises_in window rows ++ raises_in window more
+raises_append window [] more = refl
+raises_append window (row ∷ rows) more = step (row.window == window) (raises_in window (rows ++ more)) (raises_in window rows) (raises_append window rows more)
+  where
+    step : (b : Bool) (whole rest : List RaiseRow) → whole ≡ rest ++ raises_in window more → (if b then row ∷ whole else whole) ≡ (if b then row ∷ rest else rest) ++ raises_in window more
+    step true whole rest e = ap (λ z. row ∷ z) e
+    step false whole rest e = e
 
 raises_go : (window : ℕ) (rows others : List RaiseRow) (row : RaiseRow) → raises_in window rows ≡ raises_in window others → raises_in window (rows ++ row ∷ []) ≡ raises_in window (others ++ row ∷ [])
 raises_go window rows others row same =

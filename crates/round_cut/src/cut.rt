@@ -1,12 +1,12 @@
 // What a change needs, made before anything is kept.
 ghost use Rattle.std.specs.Prelude.{◌≡◌, ◌<◌, ◌+◌, IfOk, length};
-ghost use Rattle.office_moves.specs.Moves.{IsNextRound, allot_rows, final_rows};
+ghost use Rattle.office_moves.specs.Moves.{IsNextRound, allot_rows};
 ghost use Rattle.answer_table.specs.Turns.{no_turns};
 ghost use Rattle.rounds.specs.Round.{seated};
 
+use crate::next::next_round;
 use answer_table::AnswerTable;
 use kept_rows::AllotRows;
-use next_rounds::next_round;
 use office_base::OutOfMemory;
 use proceedings::Proceedings;
 use rounds::Round;
@@ -22,15 +22,6 @@ pub(crate) struct MadeCut {
     pub(crate) seated: u32,
 }
 
-/// Counts how many have a seat.
-fn count_seated(book: &Proceedings, round: &Round) -> u32
-    requires { IsNextRound book.now.season book.now.state round.now }
-    ensures { result ≡ seated round.now.seats }
-{
-    let _people = book.season().register.people();
-    round.seated() as u32
-}
-
 /// Makes the next round, its rows, and the table of the window that it opens.
 pub(crate) fn make_cut(alloc: Global, book: &Proceedings) -> Result<MadeCut, OutOfMemory>
     requires { book.now.state.now < book.now.season.rounds }
@@ -42,22 +33,14 @@ pub(crate) fn make_cut(alloc: Global, book: &Proceedings) -> Result<MadeCut, Out
     let round = next_round(alloc, book)?;
     let rows = book.allot_rows(alloc, &round)?;
     let table = book.next_table(alloc)?;
-    let seated = count_seated(book, &round);
+    let _people = book.season().register.people();
+    let seated = round.seated() as u32;
     Ok(MadeCut {
         round,
         rows,
         table,
         seated,
     })
-}
-
-/// Counts the rows of the final admissions.
-pub(crate) fn count_rows(book: &Proceedings, rows: &AllotRows) -> u32
-    requires { rows.now ≡ final_rows book.now.season book.now.state }
-    ensures { result ≡ length (final_rows book.now.season book.now.state) }
-{
-    let _people = book.season().register.people();
-    rows.len() as u32
 }
 
 /// Returns how many entries there must be room for: one, and the withdrawals of all who are still in.

@@ -14,7 +14,7 @@ ghost use Rattle.proceedings.specs.Told.{copies_nothing, takes_nothing};
 ghost use Rattle.round_cut.specs.Answering.{Accepts, KeepsOn};
 ghost use Rattle.round_cut.specs.Office.{withdraws};
 
-use crate::cut::{MadeCut, count_rows, make_cut, room_wanted};
+use crate::cut::{MadeCut, make_cut, room_wanted};
 use crate::fault::OfficeFault;
 use crate::office::Office;
 use keeper_mem::Keeper;
@@ -163,7 +163,8 @@ impl<K: Keeper> Office<K> {
         let wanted = room_wanted(&self.book);
         self.book.reserve(wanted)?;
         let admissions = self.book.final_rows(alloc)?;
-        let admitted = count_rows(&self.book, &admissions);
+        let _people = self.book.season().register.people();
+        let admitted = admissions.len() as u32;
         self.keeper.put_cut(admissions.as_slice())?;
         self.book.finish(number, admissions);
         Ok(Reply::Final { admitted })

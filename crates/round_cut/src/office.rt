@@ -10,8 +10,7 @@ ghost use Rattle.office_moves.specs.Stands.{Stand};
 ghost use Rattle.office_moves.specs.State.{opening, round_at};
 ghost use Rattle.proceedings.specs.Proceeding.{last_of, still_of};
 ghost use Rattle.keeper_mem.specs.Keeper.{Blames};
-ghost use Rattle.round_cut.specs.Office.{HasRoom, who_by};
-ghost use Rattle.round_cut.specs.Resume.{Begins};
+ghost use Rattle.round_cut.specs.Office.{Begins, HasRoom, office_over, who_by};
 
 use crate::fault::BeginFault;
 use keeper_mem::Keeper;
@@ -104,6 +103,15 @@ impl<K: Keeper> Office<K> {
         Ok(Office { book, keeper })
     }
 
+    /// Returns an office over proceedings and the keeper of their records, with room for all who are still in.
+    pub fn over(book: Proceedings, keeper: K) -> Office<K>
+        requires { Stand book.season book.state (K.seen keeper).tables
+            × HasRoom (K.seen keeper).holds_room book.still (K.seen keeper).spare }
+        ensures { result ≡ office_over book keeper }
+    {
+        Office { book, keeper }
+    }
+
     /// Returns the keeper. Its tables represent the last state.
     pub fn into_keeper(self) -> K
         ensures same { result ≡ self.keeper }
@@ -111,6 +119,15 @@ impl<K: Keeper> Office<K> {
     {
         let Office { book: _, keeper } = self;
         keeper
+    }
+
+    /// Returns the proceedings.
+    pub fn book(&self) -> &Proceedings
+        ensures season { result.now.season ≡ self.now.season }
+        ensures state { (result.now.entries ≡ self.now.entries)
+            × (result.now.state ≡ self.now.state) }
+    {
+        &self.book
     }
 
     /// Returns who a token is for. It allocates nothing.

@@ -20,10 +20,10 @@ use Rattle.command_answers.specs.declared.status.Status.TheVariants.{Ok as Done,
 use Rattle.command_answers.proofs.Answered.{by_answer}
 use Rattle.season_commands.specs.Check.{IsBundle, IsLeftBundle, bundle_answers, check_answers}
 use Rattle.season_commands.specs.Office.{EndsOffice}
-use Rattle.season_commands.specs.Resume.{EndsResume}
+use Rattle.resume_command.specs.Resume.{EndsResume}
 use Rattle.season_commands.specs.Run.{EndsRun, EndsSeason, IsUnbegunText, not_empty_line}
 use Rattle.step_command.specs.Step.{step_answers}
-use Rattle.generate_command.specs.Generated.{EndsGeneratedRun, EndsMade, IsCountedText, IsGeneratedText}
+use Rattle.season_commands.specs.Generated.{EndsGeneratedRun, EndsMade, IsCountedText, IsGeneratedText}
 use Rattle.units_command.specs.Units.{EndsUnits, units_answers}
 use Rattle.special_command.specs.Special.{EndsSpecial}
 use Rattle.same_input_laws.specs.RunOutputs.{GeneratedRunsAreOne}

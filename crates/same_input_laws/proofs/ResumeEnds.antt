@@ -7,7 +7,7 @@ use Rattle.office_moves.specs.Facts.{IsSound, SeasonFacts}
 use Rattle.replays.specs.Replay.{IsReplayed}
 use Rattle.office_moves.specs.State.{State}
 use Rattle.history_laws.specs.Laws.{HistoryGrows}
-use Rattle.round_cut.specs.Resume.{IsResumed}
+use Rattle.replays.specs.Resume.{IsResumed}
 use Rattle.season_commands.specs.Laws.{OneRun}
 use Rattle.season_commands.specs.Runs.{AfterSome, Answers}
 use Rattle.command_answers.specs.Answers.{HaveOneAnswer}
@@ -17,7 +17,7 @@ use Rattle.command_answers.specs.declared.status.Status.{Status}
 use Rattle.command_answers.specs.declared.status.Status.TheVariants.{Ok as Done, Usage, BadInput, Differs, Broken}
 use Rattle.command_answers.proofs.Answered.{by_answer}
 use Rattle.season_commands.specs.Office.{EndsOffice}
-use Rattle.season_commands.specs.Resume.{AreLeftRequests, AreRequests, EndsAsked, IsFaultyScript, IsRequestFaultLine, IsScript, IsUnresumedText, script_answers}
+use Rattle.resume_command.specs.Resume.{AreLeftRequests, AreRequests, EndsAsked, IsFaultyScript, IsRequestFaultLine, IsScript, IsUnresumedText, script_answers}
 use Rattle.same_input_laws.proofs.Written.{left_has, one_text, whole}
 use Rattle.same_input_laws.specs.Keep.{HoldTheSame}
 use Rattle.same_input_laws.specs.ResumeOutputs.{ResumesAreOne}

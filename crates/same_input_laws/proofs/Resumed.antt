@@ -14,13 +14,13 @@ use Rattle.replays.specs.Faults.{IsReplayFault}
 use Rattle.replays.specs.Laws.{HaveOneEnd}
 use Rattle.replays.specs.Replay.{IsReplayed}
 use Rattle.replays.specs.declared.fault.ReplayFault.{ReplayFault}
-use Rattle.round_cut.specs.Resume.{IsResumed, LeadTo}
+use Rattle.replays.specs.Resume.{IsResumed, LeadTo}
 use Rattle.command_answers.specs.Status.{IsAnswered}
 use Rattle.command_answers.specs.declared.status.Status.{Status}
 use Rattle.command_answers.specs.declared.status.Status.TheVariants.{BadInput, Differs}
 use Rattle.command_answers.proofs.Answered.{by_answer}
-use Rattle.season_commands.specs.Resume.{IsKeptFaultLine, IsReplayFaultLine, IsUnresumedText}
-use Rattle.season_commands.specs.Stray.{replay_line}
+use Rattle.resume_command.specs.Resume.{IsKeptFaultLine, IsReplayFaultLine, IsUnresumedText}
+use Rattle.resume_command.specs.Stray.{replay_line}
 use Rattle.one_output.specs.Laws.{OneKeptSeason, SeasonsAreSound}
 use Rattle.same_input_laws.specs.ResumeOutputs.{IsVisible}
 

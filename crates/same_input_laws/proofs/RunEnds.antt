@@ -15,7 +15,7 @@ use Rattle.command_answers.specs.declared.status.Status.{Status}
 use Rattle.command_answers.specs.declared.status.Status.TheVariants.{Ok as Done, Usage, BadInput, Differs, Broken}
 use Rattle.command_answers.proofs.Answered.{by_answer}
 use Rattle.season_commands.specs.Check.{IsBundle, IsLeftBundle, bundle_answers, check_answers}
-use Rattle.generate_command.specs.Generated.{EndsMade, IsCountedText, summary_of}
+use Rattle.season_commands.specs.Generated.{EndsMade, IsCountedText, summary_of}
 use Rattle.season_commands.specs.Run.{EndsSeason}
 use Rattle.one_output.specs.Laws.{OneOutput, OneTally}
 use Rattle.same_input_laws.specs.RunOutputs.{ChecksAreOne, GeneratedRunsAreOne, RunsAreOne}

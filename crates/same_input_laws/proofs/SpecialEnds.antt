@@ -16,7 +16,7 @@ use Rattle.office_moves.specs.State.{State, opening}
 use Rattle.office_moves.specs.declared.moves.Entry.{Entry}
 use Rattle.history_laws.specs.Laws.{HistoryGrows}
 use Rattle.replays.specs.Replay.{IsReplayed}
-use Rattle.round_cut.specs.Resume.{IsResumed}
+use Rattle.replays.specs.Resume.{IsResumed}
 use Rattle.history_laws.specs.Orderly.{IsOrderly}
 use Rattle.special_round.specs.Laws.{FinalsAreKnown}
 use Rattle.special_round.specs.Special.{IsSpecialOver}
@@ -26,7 +26,7 @@ use Rattle.command_answers.specs.Writes.{Writes}
 use Rattle.command_answers.specs.declared.status.Status.{Status}
 use Rattle.command_answers.specs.declared.status.Status.TheVariants.{Ok as Done, BadInput}
 use Rattle.command_answers.proofs.Answered.{by_answer}
-use Rattle.season_commands.specs.Resume.{IsUnresumedText}
+use Rattle.resume_command.specs.Resume.{IsUnresumedText}
 use Rattle.special_command.specs.Special.{HaveOneSpecial, IsListsFaultLine, IsSpecialOutput, IsSpecialText}
 use Rattle.same_input_laws.proofs.Written.{left_has, whole}
 use Rattle.same_input_laws.proofs.Replayed.{history_replayed}

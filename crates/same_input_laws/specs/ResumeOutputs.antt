@@ -3,7 +3,7 @@ use Rattle.std.specs.Prelude.{◌≡◌, ℕ, List, Some}
 use Rattle.kept_rows.specs.Tables.{IsTold, Tables, still}
 use Rattle.command_answers.specs.Status.{IsAnswered}
 use Rattle.command_answers.specs.declared.status.Status.{Status}
-use Rattle.season_commands.specs.Resume.{EndsResume}
+use Rattle.resume_command.specs.Resume.{EndsResume}
 use Rattle.same_input_laws.specs.Keep.{HoldTheSame}
 
 -- what was kept is visible: the tables are visible both before and after

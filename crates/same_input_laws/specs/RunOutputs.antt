@@ -5,7 +5,7 @@ use Rattle.command_answers.specs.Status.{IsAnswered}
 use Rattle.command_answers.specs.Writes.{IsTextOf, Writes}
 use Rattle.command_answers.specs.declared.status.Status.{Status}
 use Rattle.season_commands.specs.Check.{check_answers}
-use Rattle.generate_command.specs.Generated.{EndsGeneratedRun}
+use Rattle.season_commands.specs.Generated.{EndsGeneratedRun}
 use Rattle.season_commands.specs.Run.{EndsRun}
 
 -- two runs of `check` over the same bytes, with the same status, write the same

@@ -28,7 +28,7 @@ pub fn resumes_are_one()
     ensures { ResumesAreOne }
 {
     season_file::laws::one_reading();
-    season_commands::laws::one_script_answer();
+    resume_command::laws::one_script_answer();
     one_output::laws::one_season();
     history_laws::laws::history_grows();
     replays::laws::one_end();

@@ -1,4 +1,5 @@
 mod Counted
+mod GeneratedEnds
 mod OneRun
 mod OneTally
 mod RunLemmas
@@ -7,8 +8,5 @@ mod Tallying
 pub mod CheckFaults
 mod OfficeEnds
 mod OneAnswer
-mod Requests
-mod ResumeEnds
 pub mod RunEnds
 pub mod Still
-pub mod Unresumed

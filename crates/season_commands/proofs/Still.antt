@@ -1,9 +1,6 @@
 -- The tables before a command, if the tables after it are visible.
 use Rattle.std.proofs.Common.{◌≡◌, Bool, false, refl, sym, subst}
 use Rattle.kept_rows.specs.Tables.{Tables, Untold, NoSeason, Records, AreTold, IsFound, IsTold, still}
-use Rattle.office_moves.specs.Facts.{SeasonFacts}
-use Rattle.office_moves.specs.State.{State}
-use Rattle.round_cut.specs.Resume.{IsResumed}
 use Rattle.season_commands.specs.Run.{TellsSeason}
 
 -- if nothing changed, these are the visible tables after it
@@ -30,11 +27,6 @@ still_later P before (Records kept) (Records last) was none holds = holds
 
 pub still_none : (before mid after : Tables) → (IsTold after → IsTold mid) → IsFound false (still before mid) → IsFound false (still before after)
 still_none before mid after was holds = still_later (λ t. IsFound false t) before mid after was tt holds
-
-pub still_resumed : (before mid after : Tables) (facts : SeasonFacts) (state : State) → AreTold before mid → (IsTold after → IsTold mid) → IsResumed mid facts state → IsResumed (still before after) facts state
-still_resumed before mid after facts state told was resumed =
-    let (records, loaded, lead) = resumed in
-    still_later (λ t. IsResumed t facts state) before mid after was (records, tt, lead) (still_from (λ t. IsResumed t facts state) before mid told resumed)
 
 -- a season and none are apart
 pub some_apart : (tables : Tables) → IsFound false tables → TellsSeason tables → ⊥

@@ -1,4 +1,5 @@
 pub mod Faults
+pub mod Generated
 pub mod Laws
 pub mod Runs
 pub mod Steps
@@ -6,6 +7,4 @@ pub mod Tally
 pub mod Check
 pub mod Office
 pub mod Outside
-pub mod Resume
 pub mod Run
-pub mod Stray

@@ -4,7 +4,6 @@ ghost use Rattle.office_moves.specs.Facts.{SeasonFacts};
 ghost use Rattle.season_commands.specs.Laws.{EachAnswerIsCounted, GoesOn, OneRun, OneTally, PrefixIsARun};
 ghost use Rattle.command_answers.specs.Answers.{HaveOneAnswer};
 ghost use Rattle.season_commands.specs.Check.{bundle_answers, check_answers};
-ghost use Rattle.season_commands.specs.Resume.{script_answers};
 
 /// Shows that a run continues with one request at its end.
 pub fn goes_on()
@@ -57,9 +56,3 @@ pub fn one_bundle_answer()
 {
     season_file::laws::one_reading();
 }
-
-/// Shows that bytes are requests without faults or have a fault, and never both.
-/// At most one line reports that fault.
-pub fn one_script_answer()
-    ensures { (bytes : List ℕ) → HaveOneAnswer script_answers bytes }
-{}

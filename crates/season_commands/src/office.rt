@@ -15,7 +15,7 @@ use round_cut::Office;
 use std::alloc::Global;
 
 /// Answers the requests over an office, which is in the state that its entries lead to, and returns its keeper.
-pub(crate) fn run_office<K: Sink, P: Keeper>(
+pub fn run_office<K: Sink, P: Keeper>(
     alloc: Global,
     mut office: Office<P>,
     script: &[Request],

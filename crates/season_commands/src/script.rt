@@ -88,7 +88,7 @@ fn answer_one<P: Keeper, K: Sink>(
 {
     let reply = next_reply(alloc, office, request)?;
     show_reply(office, &reply);
-    let text = reply_line(alloc, office, &reply)?;
+    let text = reply_line(alloc, office.book(), &reply)?;
     Ok(write_whole(sink, text.as_slice())?)
 }
 

@@ -7,10 +7,9 @@
 
 use command_answers::{Status, finish, tell_no_memory, write_answer};
 use command_words::{Command, OutKind, WordsFault, read_words};
-use generate_command::{run_generated, write_generated};
 use keeper_mem::SureKeeper;
 use office_base::{OutOfMemory, Sink, Words};
-use season_commands::{check_answer, run_season};
+use season_commands::{check_answer, run_generated, run_season, write_generated};
 use standard_streams::{StandardInput, StandardOutput, tell_unheld};
 use std::alloc::Global;
 use std::io::IsTerminal;

@@ -5,7 +5,7 @@ use Rattle.office_base.specs.Outside.{Appends}
 use Rattle.kept_rows.specs.Tables.{Tables, AreTold, IsTold as IsTablesTold, still}
 use Rattle.office_moves.specs.Facts.{SeasonFacts}
 use Rattle.office_moves.specs.State.{State}
-use Rattle.round_cut.specs.Resume.{IsResumed}
+use Rattle.replays.specs.Resume.{IsResumed}
 use Rattle.special_round.specs.Season.{IsSpecialFault}
 use Rattle.special_round.specs.declared.fault.SpecialFault.{SpecialFault}
 use Rattle.command_answers.specs.Answers.{HasLeft, IsFailureOf, IsInputFailure, Tells, TellsLine}
@@ -15,7 +15,7 @@ use Rattle.command_answers.specs.declared.failure.Failure.TheVariants.{Read, Bad
 use Rattle.command_answers.specs.declared.status.Status.{Status}
 use Rattle.command_answers.specs.declared.status.Status.TheVariants.{Ok as Done, OutOfMemory}
 use Rattle.command_answers.proofs.Ended.{answer_is_written, status_is_told, told_is_written}
-use Rattle.season_commands.proofs.Still.{still_resumed}
+use Rattle.resume_command.proofs.ResumeEnds.{still_resumed}
 use Rattle.special_command.specs.Special.{AreFaultyLists, AreSpecialLists, EndsSpecial, HaveOneSpecial, IsListsFaultLine, IsSpecialOutput, IsSpecialText, IsToldFault, special_answers, too_long_line}
 
 -- ---- why there is no special round

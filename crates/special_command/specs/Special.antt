@@ -7,7 +7,7 @@ use Rattle.office_base.specs.Visible.{Readable}
 use Rattle.kept_rows.specs.Tables.{Tables, AreTold, still}
 use Rattle.office_moves.specs.Facts.{SeasonFacts}
 use Rattle.office_moves.specs.State.{State}
-use Rattle.round_cut.specs.Resume.{IsResumed}
+use Rattle.replays.specs.Resume.{IsResumed}
 use Rattle.special_round.specs.Season.{IsSpecialFault, MayBeHeld}
 use Rattle.special_round.specs.Special.{IsSpecial}
 use Rattle.special_round.specs.declared.fault.SpecialFault.{SpecialFault}
@@ -20,7 +20,7 @@ use Rattle.command_answers.specs.declared.failure.Failure.{Failure}
 use Rattle.command_answers.specs.declared.failure.Failure.TheVariants.{Read, Bad, NoMemory}
 use Rattle.command_answers.specs.declared.status.Status.{Status}
 use Rattle.season_commands.specs.Outside.{Outside, held}
-use Rattle.season_commands.specs.Resume.{AnswersAfter, EndsUnresumed}
+use Rattle.resume_command.specs.Resume.{AnswersAfter, EndsUnresumed}
 
 abbrev pub too_long_line : List ℕ
 too_long_line = codes "fault: special TooLong\n"

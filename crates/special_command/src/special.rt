@@ -13,7 +13,7 @@ ghost use Rattle.command_answers.specs.Ends.{BlamesStreams};
 ghost use Rattle.command_answers.specs.Writes.{WritesFor};
 ghost use Rattle.office_base.specs.Visible.{sink_of, source_of, streams_of};
 ghost use Rattle.season_commands.specs.Outside.{BlamesOffice, BlamesSource, EndsWith, Outputs, outside_of};
-ghost use Rattle.season_commands.specs.Resume.{JudgesRecords, TellsNoOffice};
+ghost use Rattle.resume_command.specs.Resume.{JudgesRecords, TellsNoOffice};
 ghost use Rattle.special_round.specs.Season.{IsSpecialFault};
 ghost use Rattle.special_command.specs.Special.{AnswersLists, AreFaultyLists, AreSpecialLists, EndsSpecial, IsSpecialOutput, IsSpecialText, IsToldFault, special_answers, too_long_line};
 
@@ -23,8 +23,8 @@ use command_answers::{Failure, Status, tell_failure, write_answer};
 use keeper_mem::Keeper;
 use office_base::limits::MOST_BUNDLE_BYTES;
 use office_base::{OutOfMemory, ReadFault, Sink, Source, Steps, Text, read_whole};
+use resume_command::resume_office;
 use round_cut::Office;
-use season_commands::resume_office;
 use season_facts::says_what_is_sound;
 use special_round::{Special, SpecialFault, special};
 use std::alloc::Global;

@@ -4,7 +4,8 @@ use command_answers::Status;
 use keeper_mem::{Keeper, SureKeeper};
 use kept_rows::Kept;
 use office_base::{MemSink, MemSource};
-use season_commands::{resume_season, run_season};
+use resume_command::resume_season;
+use season_commands::run_season;
 use std::alloc::Global;
 use std::test::Fail;
 

@@ -1,5 +1,5 @@
 use Rattle.std.proofs.Common.{inl, inr, refl, rules}
-use Rattle.season_commands.proofs.Unresumed.{judged}
+use Rattle.resume_command.proofs.Unresumed.{judged}
 use Rattle.office_commands.specs.Doors.{doors_of}
 use Rattle.office_commands.proofs.ServedEnds.{handed_in}
 use Rattle.door_crews.specs.Served.{telling}

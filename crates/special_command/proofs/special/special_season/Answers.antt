@@ -1,6 +1,6 @@
 use Rattle.std.proofs.Common.{inl, inr, ap, rules, subst}
 use Rattle.kept_rows.specs.Tables.{IsTold}
-use Rattle.season_commands.proofs.Unresumed.{judged}
+use Rattle.resume_command.proofs.Unresumed.{judged}
 use Rattle.special_command.specs.Special.{AreFaultyLists, AreSpecialLists}
 use Rattle.special_command.proofs.SpecialEnds.{resumed_ends, still_here, tells_here}
 use Rattle.special_command.proofs.special.special_season.Goals as goal

@@ -1,4 +1,4 @@
-use Rattle.std.proofs.Common.{◌≡◌, ◌∙◌, sym, ap, subst, arith}
+use Rattle.std.proofs.Common.{◌≡◌, ◌≤◌, ◌∙◌, length, sym, ap, subst, arith}
 use Rattle.office_moves.specs.Decided.{decided}
 use Rattle.office_moves.specs.Facts.{SeasonFacts}
 use Rattle.office_moves.specs.History.{asked}
@@ -8,6 +8,7 @@ use Rattle.office_moves.specs.declared.decide.Decision.TheVariants.{Finish}
 use Rattle.office_moves.specs.declared.moves.Act.TheVariants.{Cut}
 use Rattle.kept_rows.specs.Tables.{AreTold, with_cut}
 use Rattle.proceedings.proofs.ChangeLemmas.{finished_last}
+use Rattle.round_cut.proofs.Counts.{final_few}
 use Rattle.round_cut.proofs.Publishing.{stand_finals}
 use Rattle.round_cut.proofs.Standing.{stand_moved, stand_told}
 use Rattle.round_cut.proofs.office.Office.finish_season.Goals as goal
@@ -46,3 +47,13 @@ invariant_of-self-2 g c =
           let held = c.reserve.ensures.still in
           omega (arith, few, spare, falls, held),
     )
+
+pub overflow_cast-admitted : goal.overflow_cast-admitted
+overflow_cast-admitted g c =
+    let book = c.reserve.new.self in
+    let some : length c.in_ok-admissions.admissions ≤ length book.season.people =
+    subst (λ rows. length rows ≤ length book.season.people) (sym c.in_ok-admissions.ensures) (final_few book.season book.state) in
+    let people = ap (λ (f : SeasonFacts). length f.people) c.season.ensures in
+    let few = c.people-people.ensures.ranks.few in
+    let len = c.len-admitted.ensures in
+    omega (arith, some, people, few, len)

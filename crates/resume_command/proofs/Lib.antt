@@ -1,0 +1,3 @@
+mod Requests
+pub mod ResumeEnds
+pub mod Unresumed
