@@ -1,64 +1,34 @@
-// The accepted raises, in their order. Each is found by its hash.
+// The accepted raises in their order, and their keys sorted for a search.
 ghost use Rattle.std.specs.Prelude.{◌≡◌, ◌≤◌, ◌+◌, ◌++◌, ◌∷◌, [], false, OnOk};
-ghost use Rattle.std.proofs.Common.{rules};
-ghost use Rattle.std.specs.Cmp.Rules.{comparing, hashing};
-ghost use Rattle.std.specs.Hash as fed;
 ghost use Rattle.std.specs.List.{list_any};
-ghost use Rattle.office_base.specs.StepNumbers.{step_number};
 ghost use Rattle.office_moves.specs.Decided.{same_raise};
-ghost use Rattle.raised_seats.specs.Keys.{same_key};
 
-use indexmap::IndexSet;
 use kept_rows::RaiseRow;
 use office_base::{OutOfMemory, step_number};
 use std::alloc::Global;
-use std::hash::{Hash, Hasher};
 use std::marker::Model;
 
-/// A raise as a key. Two keys are equal if and only if the raises are one.
-#[derive(Clone, Copy, Debug)]
-pub(crate) struct Key(RaiseRow);
+/// The window, the programme, the step and the seats of a raise. Two raises are one if and only if their keys are.
+type Key = (u16, u16, u8, u16);
 
-impl PartialEq for Key {
-    ghost eq = { same_key };
-
-    ghost laws = { Prim.search (comparing, rules) depth 9 };
-
-    fn eq(&self, other: &Key) -> bool {
-        self.0 == other.0
-    }
-}
-
-impl Eq for Key {
-    ghost laws = { Prim.search (comparing, rules) depth 9 };
-}
-
-impl Hash for Key {
-    ghost hash_input = { λ key. fed.u16 key.0.window ++ fed.u16 key.0.prog.0 ++ fed.u8 (step_number key.0.step) ++ fed.u16 key.0.seats };
-
-    ghost respects_eq = { Prim.search (hashing, rules) };
-
-    fn hash<H: Hasher>(&self, state: &mut H) {
-        self.0.window.hash(state);
-        self.0.prog.0.hash(state);
-        step_number(self.0.step).hash(state);
-        self.0.seats.hash(state);
-    }
-}
-
-/// The accepted raises, in their order.
+/// The accepted raises.
 #[derive(Drop)]
 pub(crate) struct AcceptedRaises {
-    keys: IndexSet<Key>,
+    /// In the order in which they were accepted. Contracts speak of it, and no call reads it.
+    rows: Vec<RaiseRow>,
+    /// Their keys, sorted.
+    sorted: Vec<Key>,
 }
 
 impl Model for AcceptedRaises {
-    ghost use Rattle.indexmap.specs.IndexSet.{spare};
-    ghost use Rattle.raised_seats.specs.Keys.{Accepted, rows_in};
+    ghost use Rattle.std.specs.Prelude.{◌-◌, min, vec_capacity, vec_len};
+    ghost use Rattle.raised_seats.specs.Keys.{Accepted, AreSortedKeys};
 
     ghost Value = { Accepted };
 
-    ghost view = { λ a. record { rows = rows_in a.keys.keys; room = spare a.keys } };
+    ghost view = { λ a. record { rows = a.rows.items; room = min (vec_capacity a.rows - vec_len a.rows) (vec_capacity a.sorted - vec_len a.sorted) } };
+
+    ghost invariant = { λ a. AreSortedKeys a.rows.items a.sorted.items };
 }
 
 impl AcceptedRaises {
@@ -67,15 +37,17 @@ impl AcceptedRaises {
         ensures { result.rows ≡ [] }
     {
         AcceptedRaises {
-            keys: IndexSet::new(alloc),
+            rows: Vec::new(alloc),
+            sorted: Vec::new(alloc),
         }
     }
 
-    /// Returns whether this very raise was accepted. It looks at one place, however many were.
+    /// Returns whether this very raise was accepted. It searches among the sorted keys.
     pub(crate) fn has(&self, row: RaiseRow) -> bool
         ensures { result ≡ list_any (same_raise row) self.now.rows }
     {
-        self.keys.contains(&Key(row))
+        let sought = (row.window, row.prog.0, step_number(row.step), row.seats);
+        self.sorted.binary_search(&sought).is_ok()
     }
 
     /// Takes room for one more raise. When memory runs out, all is unchanged, and there is no less room.
@@ -84,19 +56,27 @@ impl AcceptedRaises {
         ensures more { self.old.room ≤ self.new.room }
         ensures room { OnOk result (1 ≤ self.new.room) }
     {
-        self.keys.reserve(1)?;
+        self.rows.reserve(1)?;
+        self.sorted.reserve(1)?;
         Ok(())
     }
 
-    /// Puts a raise after the others. It takes no memory.
+    /// Puts a raise after the others. It takes no memory. Windows never fall in a season, so only keys of the same window are moved.
     pub(crate) fn put(&mut self, row: RaiseRow)
         requires fresh { list_any (same_raise row) self.old.rows ≡ false }
         requires space { 1 ≤ self.old.room }
         ensures rows { self.new.rows ≡ self.old.rows ++ row ∷ [] }
         ensures room { self.old.room ≤ self.new.room + 1 }
     {
-        let Ok(_) = self.keys.insert(Key(row)) else {
-            unreachable!("there is room")
+        let key = (row.window, row.prog.0, step_number(row.step), row.seats);
+        let Err(at) = self.sorted.binary_search(&key) else {
+            unreachable!("it is none of the others")
+        };
+        let Ok(_) = self.sorted.insert(at, key) else {
+            unreachable!("there is room for its key")
+        };
+        let Ok(_) = self.rows.push(row) else {
+            unreachable!("there is room for it")
         };
     }
 }

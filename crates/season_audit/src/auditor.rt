@@ -170,7 +170,7 @@ impl Auditor {
         note(season, self.stands.as_mut_slice(), by, row);
     }
 
-    /// Takes a raise of a programme of the matrix, if it is accepted. It walks neither the matrix nor the raises before it.
+    /// Takes a raise of a programme of the matrix, if it is accepted. It does not walk the matrix, and moves no raises but those of its window.
     fn raise(&mut self, season: &Season, by: By, row: RaiseRow) -> Result<(), OutOfMemory>
         ghost state: { State }
         requires upto { IsUpTo (facts_of season.now) state self.old }

@@ -52,8 +52,8 @@ fn verdict_of(rounds: u16, broken: Option<(u16, Fault)>) -> Verdict
 /// then each list. After the last window the final admissions follow. If the verdict is sound, every round is fair and nobody
 /// falls. It fails only when memory runs out.
 ///
-/// Its cost is linear in the dossier, but for a sort of each programme's applicants by merit. In particular a raise walks neither
-/// the matrix nor the raises before it. Of what the office runs, it calls only the bookkeeping of raises.
+/// Its cost is linear in the dossier, but for a sort of each programme's applicants by merit and for a place among the sorted
+/// raises of its window for each raise. Of what the office runs, it calls only the bookkeeping of raises.
 pub fn audit(alloc: Global, dossier: &Dossier) -> Result<Verdict, OutOfMemory>
     ensures verdict { IfOk result
         (IsVerdict (facts_of dossier.now.season) dossier.now.script (papers_in dossier.now)) }
