@@ -1,4 +1,5 @@
 mod Codes
 mod LawsLemmas
+mod Numbers
 pub mod SeatsLemmas
 pub mod Unprotected

@@ -1,10 +1,9 @@
 -- What one more entry adds.
-use Rattle.std.proofs.Common.{◌≡◌, ◌⊎◌, ◌≢◌, inl, inr, ℕ, zero, suc, Bool, true, false, cond, set, get_or, lit≤, length-set, get_or-set_same, get_or-set_other, take, add-one, List, [], ◌∷◌, ◌++◌, Option, Some, None, Result, Ok, length, map, refl, sym, ap, subst, ◌∙◌, length-append, arith}
-use Rattle.std.specs.Prelude.{◌==◌, ◌&&◌, ◌||◌, ◌<◌, ◌≤◌, ◌+◌, not, sum, nat_le, nat_lt, bytes_eq, is_some, option_map, slice_get}
+use Rattle.std.proofs.Common.{◌≡◌, ◌⊎◌, ◌≢◌, inl, inr, ℕ, zero, suc, Bool, true, false, cond, set, get_or, lit≤, length-set, get_or-set_same, get_or-set_other, List, [], ◌∷◌, ◌++◌, Option, Some, None, Result, Ok, length, map, refl, sym, ap, subst, ◌∙◌, length-append, arith}
+use Rattle.std.specs.Prelude.{◌==◌, ◌&&◌, ◌<◌, ◌≤◌, ◌+◌, not, sum, nat_le, nat_lt, bytes_eq, is_some, option_map, slice_get}
 use Rattle.std.specs.Bool.{one_answer}
 use Rattle.std.specs.Cmp.Lexicographic.{slice_cmp}
 use Rattle.std.specs.List.{list_any}
-use Rattle.std.specs.Map.{keys_of, lookup}
 use Rattle.std.specs.Option.{option_and_then, unwrap_or}
 use Rattle.std.specs.Ordering.{is_eq, nat_cmp}
 use Rattle.std.proofs.lemmas.Bool.{and_parts, cases_Bool, cases_eq, cond-false, cond-true, cond_both, eq-eqb, eqb-false, eqb-true, false_from_ne_true, leb-false, ltb-false, ne_eqb}
@@ -13,7 +12,6 @@ use Rattle.std.proofs.lemmas.List.{get_or-map, length-map}
 use Rattle.std.proofs.lemmas.Option.{cond_some, get_or_from_slice_get}
 use Rattle.std.proofs.lemmas.Map.Text.{is_eq-slice_cmp}
 use Rattle.std.proofs.lemmas.Slice.Eq.{bytes_eq-Decides}
-use Rattle.indexmap.specs.IndexMap.{insert_entry}
 use Rattle.office_base.specs.CategorySteps.{own_steps}
 use Rattle.office_base.specs.Codes.{is_code}
 use Rattle.office_base.specs.Limits.{most_matrix_seats, most_programmes, most_step_seats}
@@ -33,42 +31,13 @@ use Rattle.seat_matrix.specs.Fields.{count_of, protections_of, seating_of}
 use Rattle.seat_matrix.specs.Laws.{OneStepChanges}
 use Rattle.seat_matrix.specs.Matrix.{AreEntries, AreSeats, IsMatrix, SeatTable, all_seats, codes_after, codes_in, codes_of, find_home, first_list, given, home_at, matrix_with, new_row, reading, seating_at, seating_in, seatings_in, seats_after, settles, steps_in, with_code}
 use Rattle.seat_matrix.specs.Seats.{IsSeated, is_dereserved, no_seating, no_seatings, of_step, with_seating}
-use Rattle.seat_matrix.specs.Builder.{Keeps, step_cmp}
+use Rattle.seat_matrix.specs.Builder.{step_cmp}
 use Rattle.seat_matrix.specs.declared.entry.Entry.{Entry}
 use Rattle.seat_matrix.specs.declared.entry.Home.{Home}
 use Rattle.seat_matrix.specs.declared.seats.Seating.{Seating}
 use Rattle.seat_matrix.specs.declared.seats.Seatings.{Seatings}
-use Rattle.seat_matrix.specs.declared.builder.MatrixBuilder.{MatrixBuilder}
 use Rattle.seat_matrix.specs.declared.fault.MatrixKind.{MatrixKind}
 use Rattle.seat_matrix.specs.declared.fault.MatrixKind.TheVariants.{BadCode, RepeatedRow, BadNumber, ProtectionsExceedSeats, UnknownList, TwoInstitutes, TwoLists, TooMany}
-
--- a key is found where one of the keys is it
-pub lookup-any : {K X : Type 0} (test : K → Bool) (es : List (K × X)) → is_some (lookup test es) ≡ list_any test (keys_of es)
-lookup-any test [] = refl
-lookup-any {K} {X} test (e ∷ es) = by (test e.0) (lookup-any test es)
-  where
-    by : (b : Bool) → is_some (lookup test es) ≡ list_any test (keys_of es) → is_some (cond b (Some e.1) (lookup test es)) ≡ (b || list_any test (keys_of es))
-    by true h = refl
-    by false h = h
-
--- a new key goes behind the others
-insert_new : (es : List (List ℕ × Home)) (code : List ℕ) (home : Home) → list_any (bytes_eq code) (keys_of es) ≡ false → keys_of (insert_entry bytes_eq es code home) ≡ keys_of es ++ code ∷ []
-insert_new [] code home e = refl
-insert_new (held ∷ es) code home e = by (bytes_eq code held.0) e (insert_new es code home)
-  where
-    by : (b : Bool) → (b || list_any (bytes_eq code) (keys_of es)) ≡ false → (list_any (bytes_eq code) (keys_of es) ≡ false → keys_of (insert_entry bytes_eq es code home) ≡ keys_of es ++ code ∷ [])
-        → keys_of (cond b ((held.0, home) ∷ es) (held ∷ insert_entry bytes_eq es code home)) ≡ held.0 ∷ (keys_of es ++ code ∷ [])
-    by true h more = cc h
-    by false h more = ap (λ (l : List (List ℕ)). held.0 ∷ l) (more h)
-
--- The codes after one that is new, and after one that is known.
-pub settle-new : (es new : List (List ℕ × Home)) (code : List ℕ) (home : Home) → is_some (lookup (bytes_eq code) es) ≡ false → new ≡ insert_entry bytes_eq es code home → keys_of new ≡ with_code (keys_of es) code
-settle-new es new code home none e =
-    let absent = sym (lookup-any (bytes_eq code) es) ∙ none in
-    rw (e, absent) (insert_new es code home absent)
-
-pub settle-old : (es : List (List ℕ × Home)) (code : List ℕ) → is_some (lookup (bytes_eq code) es) ≡ true → keys_of es ≡ with_code (keys_of es) code
-settle-old es code some = rw (sym (lookup-any (bytes_eq code) es) ∙ some) refl
 
 -- the codes and the seats with one more entry
 pub codes-push : (codes : List (List ℕ)) (entries : List Entry) (entry : Entry) → codes_after codes (entries ++ entry ∷ []) ≡ with_code (codes_after codes entries) entry.programme
@@ -205,15 +174,6 @@ entries-step entries entry all accepted known = record {
   total = omega (arith, seats-push 0 entries entry, accepted.total);
 }
 
--- a home is found as the map finds it
-pub find-home : (q : List ℕ) (es : List (List ℕ × Home)) → find_home q es ≡ lookup (bytes_eq q) es
-find-home q [] = refl
-find-home q (e ∷ es) = ap (λ (o : Option Home). cond (bytes_eq q e.0) (Some e.1) o) (find-home q es)
-
-keys-map : (es : List (List ℕ × Home)) → map (λ held. held.0) es ≡ keys_of es
-keys-map [] = refl
-keys-map (e ∷ es) = ap (λ (l : List (List ℕ)). e.0 ∷ l) (keys-map es)
-
 -- what the entries give for each step is seated
 given_seated : (entries : List Entry) → AreEntries entries → (code : List ℕ) (step : ℕ) → IsSeated (given (seating_at code step entries))
 given_seated entries sound code step = by (seating_at code step entries) refl
@@ -272,14 +232,6 @@ list_sound programmes prog below each = by (slice_get programmes prog) refl
     by : (o : Option (List ℕ × Home)) → slice_get programmes prog ≡ o → IsList (unwrap_or (option_map (λ held. held.1.list) o) first_list)
     by None e = (lit≤ tt, lit≤ tt)
     by (Some held) e = each held e
-
--- The map of a table, and what its entries give for each programme, are their matrix.
-pub made : (entries : List Entry) (table : MatrixBuilder) (steps : List Seatings) → Keeps entries table → steps ≡ map (seatings_in entries) (codes_of entries) → IsMatrix entries (record { programmes = table.programmes.entries; steps = steps })
-made entries table steps keeps same = record {
-  programmes = keys-map table.programmes.entries ∙ keeps.programmes;
-  homes = λ code. find-home code table.programmes.entries ∙ keeps.homes code;
-  steps = same;
-}
 
 -- The matrix of sound entries is sound.
 pub matrix_sound : (entries : List Entry) (table : SeatTable) → AreEntries entries → IsMatrix entries table → AreSeats table
@@ -360,18 +312,3 @@ with_sound table prog step seating sound below seated = record {
         ];
       };
 }
-
--- the images of one element more
-pub taken_more : {X Y : Type 0} (f : X → Y) (xs : List X) (n : ℕ) (x : X) → slice_get xs n ≡ Some x → map f (take (n + 1) xs) ≡ map f (take n xs) ++ f x ∷ []
-taken_more f xs n x e = ap (λ (k : ℕ). map f (take k xs)) (add-one n) ∙ by f xs n x e
-  where
-    by : {X Y : Type 0} (f : X → Y) (xs : List X) (n : ℕ) (x : X) → slice_get xs n ≡ Some x → map f (take (suc n) xs) ≡ map f (take n xs) ++ f x ∷ []
-    by f [] n x e = cc e
-    by f (y ∷ ys) zero x e = let same : y ≡ x = cc e in ap (λ z. f z ∷ []) same
-    by f (y ∷ ys) (suc n) x e = ap (λ zs. f y ∷ zs) (by f ys n x e)
-
--- the key of a place
-pub key_at : (es : List (List ℕ × Home)) (n : ℕ) (held : List ℕ × Home) → slice_get es n ≡ Some held → slice_get (keys_of es) n ≡ Some held.0
-key_at [] n held e = cc e
-key_at (first ∷ es) zero held e = let same : first ≡ held = cc e in ap (λ (h : List ℕ × Home). Some h.0) same
-key_at (first ∷ es) (suc n) held e = key_at es n held e

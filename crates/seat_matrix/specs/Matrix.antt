@@ -1,12 +1,18 @@
 -- The grammar of the matrix: what a row gives after the entries of the rows before it, or what is wrong with it.
-use Rattle.std.specs.Prelude.{◌≡◌, ◌≢◌, ◌≤◌, ◌<◌, ◌+◌, ℕ, not, ◌==◌, ◌&&◌, nat_le, nat_lt, sum, List, [], ◌∷◌, ◌++◌, is_some, Option, Some, None, Result, Ok, length, map, slice_get, slice_index_or, slice_set, option_map, bytes_eq, codes, if◌then◌else◌}
+use Rattle.std.specs.Prelude.{◌≡◌, ◌≢◌, ◌≤◌, ◌<◌, ◌+◌, ℕ, not, ◌==◌, ◌&&◌, nat_le, nat_lt, sum, List, [], ◌∷◌, ◌++◌, is_some, Option, Some, None, Result, Ok, length, map, slice_get, slice_index_or, slice_set, option_map, position, bytes_eq, codes, if◌then◌else◌}
+use Rattle.std.specs.BTreeMap.{is_at}
+use Rattle.std.specs.Cmp.Lexicographic.{slice_cmp}
 use Rattle.std.specs.List.{list_any}
+use Rattle.std.specs.List.Sorted.{IsStrictlySortedBy}
+use Rattle.std.specs.Map.{keys_of, lookup}
 use Rattle.std.specs.Option.{unwrap_or}
+use Rattle.std.specs.Ordering.{nat_cmp}
 use Rattle.office_base.specs.CategorySteps.{own_steps}
 use Rattle.office_base.specs.Limits.{most_matrix_seats, most_programmes}
 use Rattle.office_base.specs.Lists.{Pairwise}
 use Rattle.office_base.specs.Person.{IsList}
 use Rattle.office_base.specs.declared.person.ListId.{ListId}
+use Rattle.office_base.specs.declared.person.ProgId.{ProgId}
 use Rattle.office_base.specs.declared.step.StepKind.{StepKind}
 use Rattle.office_text.specs.Names.{code_of, step_of}
 use Rattle.office_text.specs.Number.{number_within}
@@ -145,6 +151,12 @@ pub record AreSeats (table : SeatTable) : Type 0 where
   pub few : length table.programmes ≤ most_programmes
   pub steps : length table.steps ≡ length table.programmes
   pub sound : (prog : ℕ) → prog < length table.programmes → AreProgrammeSeats (seats_in table prog)
+
+-- What a matrix keeps: its table, and the number of each programme under its code, in the order of the codes.
+pub record IsKeptMatrix (pairs : List (List ℕ × ProgId)) (table : SeatTable) : Type 0 where
+  pub sound : AreSeats table
+  pub sorted : IsStrictlySortedBy (slice_cmp nat_cmp) (keys_of pairs)
+  pub numbers : (code : List ℕ) → option_map (λ prog. prog.0) (lookup (is_at (slice_cmp nat_cmp code)) pairs) ≡ position (bytes_eq code) (codes_in table.programmes)
 
 -- the same matrix, but for the seats of one step
 abbrev pub matrix_with : SeatTable → ℕ → StepKind → Seating → SeatTable

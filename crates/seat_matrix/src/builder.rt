@@ -1,29 +1,30 @@
 // A matrix in the making: what each further row is held against.
-ghost use Rattle.std.specs.Prelude.{◌≡◌, ◌≤◌, ◌∷◌, ◌++◌, [], List, OnOk, ℕ, nat_eq, bytes_eq, Some, None, if◌then◌else◌};
-ghost use Rattle.std.specs.Cmp.Lexicographic.{pointwise};
-ghost use Rattle.indexmap.specs.IndexMap as index;
-ghost use Rattle.office_base.specs.Limits.{most_matrix_seats};
+ghost use Rattle.std.specs.Prelude.{◌≡◌, ◌≤◌, ◌∷◌, ◌++◌, [], List, OnOk, IfOk, length};
+ghost use Rattle.std.specs.BTreeMap as tree;
+ghost use Rattle.std.specs.Cmp.Lexicographic.{slice_cmp};
+ghost use Rattle.std.specs.Ordering.{nat_cmp};
+ghost use Rattle.office_base.specs.Limits.{most_matrix_seats, most_programmes};
 ghost use Rattle.section_rows.specs.Rows.{Row};
-ghost use Rattle.section_rows.specs.Steps.{or_else};
-ghost use Rattle.seat_matrix.specs.Matrix.{with_code};
+ghost use Rattle.seat_matrix.specs.Builder.{AreNumbers, with_programme};
 
 use crate::entry::{Entry, Home};
 use crate::fault::MatrixKind;
 use crate::fields::read_seating;
 use crate::matrix::Matrix;
 use crate::seats::{Seating, Seatings};
-use indexmap::IndexMap;
 use office_base::limits::{MOST_MATRIX_SEATS, MOST_PROGRAMMES};
-use office_base::{Code, ListId, OWN_STEPS, OutOfMemory, StepKind, step_number};
+use office_base::{Code, ListId, OWN_STEPS, OutOfMemory, ProgId, StepKind, step_number};
 use office_text::{read_number, read_step};
 use section_rows::{Rows, TableBuilder};
-use std::alloc::Global;
+use std::alloc::{AllocError, Global};
 use std::collections::BTreeMap;
 
-/// A matrix in the making: the programmes so far in the order in which they first appeared, the seats of their steps, and all seats.
+/// A matrix in the making: the programmes so far in the order in which they first appeared, the number of each by its
+/// code, the seats of their steps, and all seats.
 #[derive(Drop)]
 pub(crate) struct MatrixBuilder {
-    pub(crate) programmes: IndexMap<Code, Home>,
+    pub(crate) programmes: Vec<(Code, Home)>,
+    pub(crate) numbers: BTreeMap<Code, ProgId>,
     pub(crate) steps: BTreeMap<(Code, u8), Seating>,
     pub(crate) total: u32,
 }
@@ -33,14 +34,15 @@ impl MatrixBuilder {
     ghost use Rattle.seat_matrix.specs.Matrix.{IsMatrix, codes_of, given, home_at, new_row, reading, seating_at, seatings_in, settles};
     ghost use Rattle.seat_matrix.specs.Builder.{Keeps};
     ghost use Rattle.seat_matrix.specs.declared.entry.Entry.{Entry};
-    ghost use Rattle.std.specs.Prelude.{IfOk, length, map};
+    ghost use Rattle.std.specs.Prelude.{map};
 
     /// No programmes.
     pub(crate) fn new(alloc: Global) -> MatrixBuilder
         ensures { Keeps [] result }
     {
         MatrixBuilder {
-            programmes: IndexMap::new(alloc),
+            programmes: Vec::new(alloc),
+            numbers: BTreeMap::new(alloc),
             steps: BTreeMap::new(alloc),
             total: 0,
         }
@@ -66,12 +68,25 @@ impl MatrixBuilder {
         Ok((programme, institute, step))
     }
 
+    /// Returns the home of a programme, if a row gave one.
+    fn home(&self, programme: Code) -> Option<Home>
+        requires { (entries : List Entry) × Keeps entries self.now }
+        ensures { (entries : List Entry) → Keeps entries self.now
+            → result ≡ home_at programme entries }
+    {
+        match self.numbers.get(&programme) {
+            Some(number) => Some(self.programmes[usize::from(number.0)].1),
+            None => None,
+        }
+    }
+
     /// The home of a programme, where it is a new programme or has the same home as before.
     fn settles(&self, programme: Code, home: Home) -> Result<Home, MatrixKind>
+        requires { (entries : List Entry) × Keeps entries self.now }
         ensures { (entries : List Entry) → Keeps entries self.now
             → result ≡ settles (home_at programme entries) (length (codes_of entries)) home }
     {
-        match self.programmes.get(&programme) {
+        match self.home(programme) {
             None => {
                 if self.programmes.len() >= MOST_PROGRAMMES {
                     Err(MatrixKind::TooMany)
@@ -94,7 +109,7 @@ impl MatrixBuilder {
     /// What a row gives, or the first of its faults.
     #[tactic(auto, unfolding(crate::specs::Matrix::reading))]
     fn read(&self, row: &Rows<'_>) -> Result<Entry, MatrixKind>
-        requires { self.now.total ≤ most_matrix_seats }
+        requires { (entries : List Entry) × Keeps entries self.now }
         ensures { (entries : List Entry) → Keeps entries self.now
             → result ≡ reading entries row.now.row }
     {
@@ -128,13 +143,18 @@ impl MatrixBuilder {
 
     /// Puts in what a row gave. Where there is no memory for it, the builder is of no use any more.
     fn add(&mut self, entry: Entry) -> Result<(), OutOfMemory>
-        requires { self.old.total ≤ most_matrix_seats }
+        requires { (entries : List Entry) × Keeps entries self.old }
         ensures { OnOk result ((entries : List Entry) (row : Row) → Keeps entries self.old
             → reading entries row ≡ Ok entry → Keeps (entries ++ entry ∷ []) self.new) }
     {
         self.steps
             .insert((entry.programme, step_number(entry.step)), entry.seating)?;
-        settle(&mut self.programmes, entry.programme, entry.home)?;
+        settle(
+            &mut self.programmes,
+            &mut self.numbers,
+            entry.programme,
+            entry.home,
+        )?;
         self.total += u32::from(entry.seating.seats);
         Ok(())
     }
@@ -166,10 +186,7 @@ impl MatrixBuilder {
             → steps.items ≡ map (seatings_in entries) (codes_of entries)) }
     {
         let mut steps = Vec::new(alloc);
-        for number in 0..self.programmes.len() {
-            let Some((code, _)) = self.programmes.get_index(number) else {
-                unreachable!("the number is below the count")
-            };
+        for (code, _) in self.programmes.as_slice() {
             steps.push(self.seatings(*code))?;
         }
         Ok(steps)
@@ -182,8 +199,10 @@ impl MatrixBuilder {
             → Keeps entries self → IsMatrix entries matrix) }
     {
         let steps = self.all_seatings(alloc)?;
+        let numbers = in_order(alloc, self.numbers)?;
         Ok(Matrix {
             programmes: self.programmes,
+            numbers,
             steps,
         })
     }
@@ -243,15 +262,32 @@ impl TableBuilder for MatrixBuilder {
 }
 
 /// Gives the programme the next number, unless it has one.
-fn settle(programmes: &mut IndexMap<Code, Home>, code: Code, home: Home) -> Result<(), OutOfMemory>
-    ensures keys { OnOk result
-        (index.keys programmes.new ≡ with_code (index.keys programmes.old) code) }
-    ensures homes { OnOk result ((q : List ℕ) → index.get (pointwise nat_eq) programmes.new q
-        ≡ or_else (index.get (pointwise nat_eq) programmes.old q)
-        (if bytes_eq q code then Some home else None)) }
+fn settle(
+    programmes: &mut Vec<(Code, Home)>,
+    numbers: &mut BTreeMap<Code, ProgId>,
+    code: Code,
+    home: Home,
+) -> Result<(), OutOfMemory>
+    requires numbers { AreNumbers programmes.old.items numbers.old }
+    requires few { length programmes.old.items ≤ most_programmes }
+    ensures programmes { OnOk result (programmes.new.items
+        ≡ with_programme programmes.old.items code home) }
+    ensures numbers { OnOk result (AreNumbers programmes.new.items numbers.new) }
 {
-    if !programmes.contains_key(&code) {
-        programmes.insert(code, home)?;
+    if !numbers.contains_key(&code) {
+        numbers.insert(code, ProgId(programmes.len() as u16))?;
+        programmes.push((code, home))?;
     }
     Ok(())
+}
+
+/// Returns the numbers of the programmes in the order of their codes.
+fn in_order(
+    alloc: Global,
+    numbers: BTreeMap<Code, ProgId>,
+) -> Result<Vec<(Code, ProgId)>, AllocError>
+    ensures { IfOk result (λ pairs. (pairs.items ≡ numbers.entries)
+        × tree.IsOrdered (slice_cmp nat_cmp) numbers) }
+{
+    numbers.into_iter().collect(alloc)
 }

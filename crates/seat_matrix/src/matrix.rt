@@ -11,27 +11,28 @@ use crate::builder::MatrixBuilder;
 use crate::entry::Home;
 use crate::fault::MatrixFault;
 use crate::seats::{ProgrammeSeats, Seating, Seatings};
-use indexmap::IndexMap;
-use office_base::{Code, ListId, OutOfMemory, ProgId, Protections, StepKind};
+use office_base::{Code, ListId, OutOfMemory, ProgId, Protections, StepKind, find_sorted};
 use section_rows::read_table;
 use std::alloc::Global;
 use std::marker::Model;
 
-/// The programmes by their numbers, and the seats of the steps of each.
+/// Holds the programmes by their numbers, and the seats of the steps of each. It keeps the numbers once more by the
+/// codes, in their order: so a code is found by a search, and no map comes with a matrix.
 #[derive(Drop)]
 pub struct Matrix {
-    pub(crate) programmes: IndexMap<Code, Home>,
+    pub(crate) programmes: Vec<(Code, Home)>,
+    pub(crate) numbers: Vec<(Code, ProgId)>,
     pub(crate) steps: Vec<Seatings>,
 }
 
 impl Model for Matrix {
-    ghost use Rattle.seat_matrix.specs.Matrix.{SeatTable, AreSeats};
+    ghost use Rattle.seat_matrix.specs.Matrix.{SeatTable, IsKeptMatrix};
 
     ghost Value = { SeatTable };
 
-    ghost view = { λ a. record { programmes = a.programmes.entries; steps = a.steps.items } };
+    ghost view = { λ a. record { programmes = a.programmes.items; steps = a.steps.items } };
 
-    ghost invariant = { λ a. AreSeats (record { programmes = a.programmes.entries; steps = a.steps.items }) };
+    ghost invariant = { λ a. IsKeptMatrix a.numbers.items (record { programmes = a.programmes.items; steps = a.steps.items }) };
 }
 
 impl Matrix {
@@ -60,10 +61,7 @@ impl Matrix {
         ensures { option_map (λ prog. prog.0) result
             ≡ position (bytes_eq code) (map (λ held. held.0) self.now.programmes) }
     {
-        match self.programmes.get_index_of(&code) {
-            Some(number) => Some(ProgId(number as u16)),
-            None => None,
-        }
+        find_sorted(self.numbers.as_slice(), &code).copied()
     }
 
     /// The code of a programme.
@@ -71,10 +69,7 @@ impl Matrix {
         requires { prog.0 < length self.now.programmes }
         ensures { option_map (λ held. held.0) (slice_get self.now.programmes prog.0) ≡ Some result }
     {
-        let Some((code, _)) = self.programmes.get_index(usize::from(prog.0)) else {
-            unreachable!("the number is below the count")
-        };
-        *code
+        self.programmes[usize::from(prog.0)].0
     }
 
     /// Whether there is a programme of this number and a text spells its code. Then the programme is the one of this code.
@@ -177,9 +172,11 @@ impl Matrix {
     pub fn copy(&self, alloc: Global) -> Result<Matrix, OutOfMemory>
         ensures { IfOk result (λ matrix. matrix ≡ self.now) }
     {
-        let programmes = self.programmes.clone()?;
-        let steps = Vec::from_slice(alloc, &self.steps)?;
-        Ok(Matrix { programmes, steps })
+        Ok(Matrix {
+            programmes: Vec::from_slice(alloc, self.programmes.as_slice())?,
+            numbers: Vec::from_slice(alloc, self.numbers.as_slice())?,
+            steps: Vec::from_slice(alloc, self.steps.as_slice())?,
+        })
     }
 
     /// Returns the institute of a programme, and its list.
@@ -189,10 +186,7 @@ impl Matrix {
             ≡ Some result }
         ensures list { IsList result.list }
     {
-        let Some((_, home)) = self.programmes.get_index(usize::from(prog.0)) else {
-            unreachable!("the number is below the count")
-        };
-        *home
+        self.programmes[usize::from(prog.0)].1
     }
 
     /// What the matrix has for a programme in a step.
