@@ -3,7 +3,7 @@ mod Axioms
 mod Counting
 mod Decide
 mod Fewer
-mod Fours
+mod Filling
 mod Grows
 pub mod Handed
 mod Keeping

@@ -1,6 +1,7 @@
 // The choice of a programme, step by step.
 ghost use Rattle.std.specs.Prelude.{◌≡◌, ◌≤◌, ◌<◌, ◌++◌, [], ◌∷◌, IfOk, length, take};
 ghost use Rattle.std.specs.List.{filter};
+ghost use Rattle.office_base.specs.CategorySteps.{category_steps};
 ghost use Rattle.office_base.specs.Limits.{most_step_seats};
 ghost use Rattle.office_base.specs.Person.{IsList, is_common};
 ghost use Rattle.office_base.specs.StepChoice.{AreRanked, IsStep, IsStepChoice};
@@ -17,8 +18,8 @@ use crate::filters::{left_over, members, without};
 use dereserve::{commons, fill, left_unfilled};
 use merit_choice::{choose, in_merit_order};
 use office_base::{
-    CATEGORY_COUNT, CATEGORY_STEPS, CategoryStep, ListId, OutOfMemory, People, Person, ProgId,
-    Protections, Step, StepKind,
+    CATEGORY_STEPS, CategoryStep, ListId, OWN_COUNT, OutOfMemory, People, Person, ProgId,
+    Protections, STEP_COUNT, Step, StepKind,
 };
 use programme_lists::{Programme, StepList};
 use seat_matrix::{Matrix, ProgrammeSeats, Seating};
@@ -132,40 +133,33 @@ fn category_steps(
     alloc: Global,
     seats: &ProgrammeSeats,
     rest: &[Person],
-) -> Result<[StepList; CATEGORY_COUNT], OutOfMemory>
+) -> Result<Vec<StepList>, OutOfMemory>
     requires seats { AreProgrammeSeats seats.now }
     requires ranked { AreRanked seats.now.list rest.now }
     requires few { length rest.now ≤ 4294967295 }
-    ensures { IfOk result (AreCategorySteps seats.now rest.now) }
+    ensures { IfOk result (λ lists. AreCategorySteps seats.now rest.now lists.items) }
 {
-    Ok([
-        category_step(alloc, CATEGORY_STEPS[0], seats, rest)?,
-        category_step(alloc, CATEGORY_STEPS[1], seats, rest)?,
-        category_step(alloc, CATEGORY_STEPS[2], seats, rest)?,
-        category_step(alloc, CATEGORY_STEPS[3], seats, rest)?,
-    ])
+    // with room for the lists of the other steps
+    let mut lists = Vec::with_capacity(alloc, STEP_COUNT)?;
+    for row in CATEGORY_STEPS {
+        let list = category_step(alloc, row, seats, rest)?;
+        lists.push(list)?;
+    }
+    Ok(lists)
 }
 
 /// How many seats the categories leave to the de-reserved step.
-fn empty_seats(
-    version: u8,
-    seats: &ProgrammeSeats,
-    first: &StepList,
-    lists: &[StepList; CATEGORY_COUNT],
-) -> u32
+fn empty_seats(version: u8, seats: &ProgrammeSeats, first: &StepList, lists: &[StepList]) -> u32
     requires version { IsVersion version }
     requires seats { AreProgrammeSeats seats.now }
     requires first { length first.now.admitted ≤ (seats_of seats.now OpenStep).seats }
     requires lists { AreWithin seats.now lists.now }
     ensures { result ≡ empty_after version seats.now (first.now ∷ lists.now) }
 {
-    let held = [
-        held_by(first),
-        held_by(&lists[0]),
-        held_by(&lists[1]),
-        held_by(&lists[2]),
-        held_by(&lists[3]),
-    ];
+    let mut held = [held_by(first); OWN_COUNT];
+    for i in 0..lists.len() {
+        held[i + 1] = held_by(&lists[i]);
+    }
     left_unfilled(version, &seats.steps, &held)
 }
 
@@ -176,7 +170,7 @@ fn last_step(
     seats: &ProgrammeSeats,
     rest: &[Person],
     first: &StepList,
-    lists: &[StepList; CATEGORY_COUNT],
+    lists: &[StepList],
 ) -> Result<StepList, OutOfMemory>
     requires version { IsVersion version }
     requires seats { AreProgrammeSeats seats.now }
@@ -194,14 +188,17 @@ fn last_step(
 /// The lists of a programme, in the order of the steps.
 pub(crate) fn programme_of(
     first: StepList,
-    lists: [StepList; CATEGORY_COUNT],
+    mut lists: Vec<StepList>,
     last: StepList,
-) -> Programme
-    ensures { result.steps ≡ first ∷ lists ++ last ∷ [] }
+) -> Result<Programme, OutOfMemory>
+    requires { length lists.items ≡ length category_steps }
+    ensures { IfOk result (λ programme. programme.steps ≡ first ∷ lists.items ++ last ∷ []) }
 {
-    let [second, third, fourth, fifth] = lists;
-    Programme {
-        steps: [first, second, third, fourth, fifth, last],
+    lists.insert(0, first)?;
+    lists.push(last)?;
+    match <[StepList; STEP_COUNT]>::try_from(lists) {
+        Ok(steps) => Ok(Programme { steps }),
+        Err(_) => unreachable!("each step has a list"),
     }
 }
 
@@ -221,8 +218,8 @@ fn choose_from_rest(
     ensures { IfOk result (λ programme. ShowsFromRest version seats.now first rest.now programme) }
 {
     let lists = category_steps(alloc, seats, rest)?;
-    let last = last_step(alloc, version, seats, rest, &first, &lists)?;
-    Ok(programme_of(first, lists, last))
+    let last = last_step(alloc, version, seats, rest, &first, lists.as_slice())?;
+    programme_of(first, lists, last)
 }
 
 /// Returns the choice of a programme from applicants in merit order, the best first. Walks through the people of each

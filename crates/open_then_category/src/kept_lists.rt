@@ -20,8 +20,8 @@ use crate::laws::step_laws;
 use crate::state::ProgrammeState;
 use dereserve::{is_common, left_unfilled};
 use office_base::{
-    CATEGORY_COUNT, CATEGORY_STEPS, Category, CategoryStep, ListId, OWN_COUNT, OutOfMemory, People,
-    Person, Protections, StepKind,
+    CATEGORY_COUNT, CATEGORY_STEPS, Category, CategoryStep, ListId, OWN_COUNT, OWN_STEPS,
+    OutOfMemory, People, Person, Protections, STEP_COUNT, StepKind,
 };
 use programme_lists::{Programme, StepList};
 use slot_cert::{Cert, canonical_pairs};
@@ -183,15 +183,18 @@ fn category_lists(
     alloc: Global,
     state: &ProgrammeState,
     members: &[u32; CATEGORY_COUNT],
-) -> Result<[StepList; CATEGORY_COUNT], OutOfMemory>
+) -> Result<Vec<StepList>, OutOfMemory>
     requires { AreCounted state.now category_steps members.now }
-    ensures { IfOk result (ShowCategories state.now category_steps members.now) }
+    ensures { IfOk result (λ lists.
+        ShowCategories state.now category_steps members.now lists.items) }
 {
-    let first = category_list(alloc, state, CATEGORY_STEPS[0], members[0])?;
-    let second = category_list(alloc, state, CATEGORY_STEPS[1], members[1])?;
-    let third = category_list(alloc, state, CATEGORY_STEPS[2], members[2])?;
-    let fourth = category_list(alloc, state, CATEGORY_STEPS[3], members[3])?;
-    Ok([first, second, third, fourth])
+    // with room for the lists of the other steps
+    let mut lists = Vec::with_capacity(alloc, STEP_COUNT)?;
+    for i in 0..CATEGORY_STEPS.len() {
+        let list = category_list(alloc, state, CATEGORY_STEPS[i], members[i])?;
+        lists.push(list)?;
+    }
+    Ok(lists)
 }
 
 /// How many of those whom the steps before the de-reserved one admit have a common place.
@@ -220,13 +223,11 @@ fn count_all_held(state: &ProgrammeState) -> [u16; OWN_COUNT]
     requires { IsProgrammeKept state.now }
     ensures { result ≡ map (λ kind. length (admissions_of state.now kind)) own_steps }
 {
-    [
-        count_held(state, StepKind::Open),
-        count_held(state, CATEGORY_STEPS[0].step),
-        count_held(state, CATEGORY_STEPS[1].step),
-        count_held(state, CATEGORY_STEPS[2].step),
-        count_held(state, CATEGORY_STEPS[3].step),
-    ]
+    let mut held = [0; OWN_COUNT];
+    for i in 0..OWN_STEPS.len() {
+        held[i] = count_held(state, OWN_STEPS[i]);
+    }
+    held
 }
 
 /// Returns the list of the de-reserved step: of those with a common place who came, those whom no step before took
@@ -253,7 +254,7 @@ fn last_list(alloc: Global, state: &ProgrammeState, came: u32) -> Result<StepLis
     )
 }
 
-/// Returns the six lists of a programme that keeps the choice from all who came, by how many came. They are the very
+/// Returns the lists of a programme that keeps the choice from all who came, by how many came. They are the very
 /// lists of `programme_choice` from these people, made without going through them again. The only error is that
 /// memory runs out; it leaves nothing.
 pub fn lists_of(
@@ -269,5 +270,5 @@ pub fn lists_of(
     let first = open_list(alloc, state, tried.common)?;
     let lists = category_lists(alloc, state, &tried.members)?;
     let last = last_list(alloc, state, tried.common)?;
-    Ok(programme_of(first, lists, last))
+    programme_of(first, lists, last)
 }

@@ -148,12 +148,15 @@ fn category_states(
     requires { AreProgrammeSeats seats.now }
     ensures { IfOk result (λ states. states ≡ categories_kept seats.now nobody) }
 {
-    Ok([
-        step_state(alloc, seats, CATEGORY_STEPS[0].step)?,
-        step_state(alloc, seats, CATEGORY_STEPS[1].step)?,
-        step_state(alloc, seats, CATEGORY_STEPS[2].step)?,
-        step_state(alloc, seats, CATEGORY_STEPS[3].step)?,
-    ])
+    let mut states = Vec::with_capacity(alloc, CATEGORY_COUNT)?;
+    for row in CATEGORY_STEPS {
+        let state = step_state(alloc, seats, row.step)?;
+        states.push(state)?;
+    }
+    match <[StepState; CATEGORY_COUNT]>::try_from(states) {
+        Ok(states) => Ok(states),
+        Err(_) => unreachable!("each row has a state"),
+    }
 }
 
 /// A step of a programme that holds nobody.
@@ -186,13 +189,11 @@ fn held_by_steps(
     requires categories { AllByRecursion (λ step. step.seats ≤ most_step_seats) categories.now }
     ensures { result ≡ length open_step.now.held ∷ map (λ step. length step.held) categories.now }
 {
-    [
-        held_by(open_step),
-        held_by(&categories[0]),
-        held_by(&categories[1]),
-        held_by(&categories[2]),
-        held_by(&categories[3]),
-    ]
+    let mut held = [held_by(open_step); OWN_COUNT];
+    for i in 0..categories.len() {
+        held[i + 1] = held_by(&categories[i]);
+    }
+    held
 }
 
 /// Hands the person to a step for those with a common place. Returns who continues to the next step.

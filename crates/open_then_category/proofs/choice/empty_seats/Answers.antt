@@ -1,22 +1,22 @@
-use Rattle.std.proofs.Common.{arith}
+use Rattle.std.proofs.Common.{◌≤◌, ap, arith, length}
+use Rattle.office_base.specs.CategorySteps.{category_steps}
 use Rattle.office_base.specs.declared.step.StepKind.TheVariants.{Open}
-use Rattle.open_then_category.proofs.Assemble.{few_in}
+use Rattle.programme_lists.specs.declared.programme.StepList.{StepList}
+use Rattle.seat_matrix.specs.Seats.{seats_of}
+use Rattle.open_then_category.proofs.Assemble.{few_in, zip_length}
 use Rattle.open_then_category.proofs.choice.empty_seats.Goals as goal
 
-pub held_by-requires : goal.held_by-requires
-held_by-requires c =
+pub held_by-held-requires : goal.held_by-held-requires
+held_by-held-requires c =
     let held = c.requires.first in
     let few = (c.requires.seats.steps Open).seats in
     omega (arith, held, few)
 
-pub held_by-requires-2 : goal.held_by-requires-2
-held_by-requires-2 c = few_in c.args.seats.now c.args.lists.now 0 _ c.requires.seats c.requires.lists (omega arith)
-
-pub held_by-requires-3 : goal.held_by-requires-3
-held_by-requires-3 c = few_in c.args.seats.now c.args.lists.now 1 _ c.requires.seats c.requires.lists (omega arith)
-
-pub held_by-requires-4 : goal.held_by-requires-4
-held_by-requires-4 c = few_in c.args.seats.now c.args.lists.now 2 _ c.requires.seats c.requires.lists (omega arith)
-
-pub held_by-requires-5 : goal.held_by-requires-5
-held_by-requires-5 c = few_in c.args.seats.now c.args.lists.now 3 _ c.requires.seats c.requires.lists (omega arith)
+pub held_by-requires : goal.held_by-requires
+held_by-requires c =
+    let seats = c.args.seats.now in
+    let many = zip_length (λ row list. length list.admitted ≤ (seats_of seats row.step).seats) category_steps c.args.lists.now c.requires.lists in
+    let below = c.loop-i-test.true in
+    let same = ap (λ (list : StepList). length list.admitted) c.index-lists-i.is in
+    let few = few_in seats c.args.lists.now c.loop-i.i c.index-lists-i.result c.requires.seats c.requires.lists (omega (arith, many, below)) in
+    omega (arith, same, few)

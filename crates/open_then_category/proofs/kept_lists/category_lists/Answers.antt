@@ -1,12 +1,13 @@
-use Rattle.std.proofs.Common.{List, [], ◌∷◌, subst}
+use Rattle.std.proofs.Common.{◌+◌, subst, sym, take, arith}
 use Rattle.office_base.specs.CategorySteps.{category_steps}
-use Rattle.programme_lists.specs.declared.programme.StepList.{StepList}
 use Rattle.open_then_category.specs.Tried.{ShowCategories}
-use Rattle.open_then_category.proofs.Fours.{read_four}
+use Rattle.open_then_category.proofs.Filling.{shows_next}
 use Rattle.open_then_category.proofs.kept_lists.category_lists.Goals as goal
 
-pub returns : goal.returns
-returns c =
-    let lists : List StepList = c.in_ok-first.first ∷ c.in_ok-second.second ∷ c.in_ok-third.third ∷ c.in_ok-fourth.fourth ∷ [] in
-    subst (λ counts. ShowCategories c.args.state.now category_steps counts lists) (read_four c.args.members.now 0 0 0 0 c.told-members)
-    (c.in_ok-first.ensures, (c.in_ok-second.ensures, (c.in_ok-third.ensures, (c.in_ok-fourth.ensures, tt))))
+pub loop-i-preserved : goal.loop-i-preserved
+loop-i-preserved c =
+    let i = c.loop-i.i in
+    let below = c.loop-i-test.true in
+    let counts = c.told-members in
+    subst (ShowCategories c.args.state.now (take (i + 1) category_steps) (take (i + 1) c.args.members.now)) (sym c.in_ok-push.ensures.items)
+    (shows_next c.args.state.now category_steps c.args.members.now c.loop-i.lists.items i _ _ c.in_ok-list.list below (omega (arith, below, counts)) c.loop-i.invariant c.in_ok-list.ensures)
