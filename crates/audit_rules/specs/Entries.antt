@@ -23,7 +23,7 @@ abbrev pub of_kinds : ℕ → Programme → List StepKind → List Entry
 of_kinds p programme [] = []
 of_kinds p programme (kind ∷ kinds) = of_kind p programme kind ++ of_kinds p programme kinds
 
--- of the six lists of a programme
+-- of all lists of a programme
 abbrev pub of_programme : ℕ → Programme → List Entry
 of_programme p programme = of_kinds p programme all_steps
 

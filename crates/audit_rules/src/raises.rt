@@ -1,5 +1,6 @@
 // Which raises a replay takes.
 ghost use Rattle.std.specs.Prelude.{◌≡◌, ◌≤◌};
+ghost use Rattle.office_base.specs.Limits.{most_raised_seats};
 ghost use Rattle.audit_rules.specs.Raises.{lifts, may_have};
 
 use kept_rows::RaiseRow;
@@ -10,7 +11,7 @@ use office_moves::RaiseFacts;
 /// Returns whether the step may have this many seats.
 fn may_have(looks: &RaiseFacts, row: RaiseRow) -> bool
     requires few { looks.now.seats ≤ looks.now.total }
-    requires all { looks.now.total ≤ 40000000 }
+    requires all { looks.now.total ≤ most_raised_seats }
     ensures { result ≡ may_have looks.now row }
 {
     !matches!(row.step, StepKind::Dereserved)
@@ -22,7 +23,7 @@ fn may_have(looks: &RaiseFacts, row: RaiseRow) -> bool
 /// Returns whether the clerk raises seats anew, in the open window, before the last one. It takes no memory.
 pub fn lifts(looks: &RaiseFacts, by: By, row: RaiseRow) -> bool
     requires few { looks.now.seats ≤ looks.now.total }
-    requires all { looks.now.total ≤ 40000000 }
+    requires all { looks.now.total ≤ most_raised_seats }
     ensures { result ≡ lifts looks.now by row }
 {
     by == By::Clerk

@@ -1,6 +1,7 @@
 -- The limits of the office: how many of each thing it takes, the greatest number of each kind,
 -- and how long a spelling may be.
-use Rattle.std.specs.Prelude.{ℕ}
+use Rattle.std.specs.Prelude.{◌*◌, ℕ, length}
+use Rattle.office_base.specs.CategorySteps.{own_steps}
 
 -- candidates of a register, or of a step sheet
 abbrev pub most_candidates : ℕ
@@ -17,6 +18,10 @@ most_step_seats = 4000
 -- seats of all steps of a matrix
 abbrev pub most_matrix_seats : ℕ
 most_matrix_seats = 1000000
+
+-- seats of all steps of a matrix after every raise
+abbrev pub most_raised_seats : ℕ
+most_raised_seats = length own_steps * most_step_seats * most_programmes
 
 -- programmes on one choice list
 abbrev pub most_row_choices : ℕ

@@ -5,7 +5,7 @@ use Rattle.std.proofs.lemmas.Bool.{cases_Bool, cases_eq, eq-eqb, ne_eqb}
 use Rattle.std.proofs.lemmas.List.Sums.{get_or-le-sum_by, sum_by-cons, sum_by-le}
 use Rattle.std.proofs.lemmas.Option.{get_or_from_slice_get}
 use Rattle.office_base.specs.CategorySteps.{all_steps, own_steps}
-use Rattle.office_base.specs.Limits.{most_step_seats}
+use Rattle.office_base.specs.Limits.{most_raised_seats, most_step_seats}
 use Rattle.office_base.specs.Lists.{IsAmong}
 use Rattle.office_base.specs.StepNumbers.{step_number}
 use Rattle.office_base.specs.declared.category_steps.CategoryStep.{CategoryStep}
@@ -143,8 +143,8 @@ sum_few : (n : ℕ) (steps : List Seatings) → ((p : ℕ) → p < length steps 
 sum_few n [] few = omega arith
 sum_few n (s ∷ steps) few = omega (arith, few 0 (omega arith), sum_few n steps (λ p less. few (suc p) (omega (arith, less))))
 
--- the seats of every matrix are at most 40,000,000
-pub sum_small : (table : SeatTable) → AreSeats table → total_seats table ≤ 40000000
+-- the seats of every matrix are few
+pub sum_small : (table : SeatTable) → AreSeats table → total_seats table ≤ most_raised_seats
 sum_small table sound =
     let each = sum_few (length own_steps * most_step_seats) table.steps (λ p less. one_small _ (sound.sound p (omega (arith, less, sound.steps)))) in
     omega (arith, each, sound.steps, sound.few)

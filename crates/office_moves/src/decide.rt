@@ -1,5 +1,6 @@
 // What a request comes to, from what it is judged by.
 ghost use Rattle.std.specs.Prelude.{◌≡◌, ◌≤◌};
+ghost use Rattle.office_base.specs.Limits.{most_raised_seats};
 ghost use Rattle.office_moves.specs.Judge.{choice_of, is_gone, judge_answer, judge_cut, judge_list, judge_new_answer, judge_new_seats, judge_next_answer, judge_own, judge_raise, judge_round, judge_why, may_ask, not_open};
 
 use crate::refusal::Refusal;
@@ -237,7 +238,7 @@ pub fn judge_round(cuts: u16, published: u16, round: u16) -> Decision
 /// What a raise comes to. It takes no memory.
 pub fn judge_raise(looks: &RaiseFacts, by: By, row: RaiseRow) -> Decision
     requires few { looks.now.seats ≤ looks.now.total }
-    requires all { looks.now.total ≤ 40000000 }
+    requires all { looks.now.total ≤ most_raised_seats }
     ensures { result ≡ judge_raise looks.now by row }
 {
     if by != By::Clerk {
@@ -258,7 +259,7 @@ pub fn judge_raise(looks: &RaiseFacts, by: By, row: RaiseRow) -> Decision
 /// What a raise of the open window comes to, by its seats.
 fn judge_new_seats(looks: &RaiseFacts, row: RaiseRow) -> Decision
     requires few { looks.now.seats ≤ looks.now.total }
-    requires all { looks.now.total ≤ 40000000 }
+    requires all { looks.now.total ≤ most_raised_seats }
     ensures { result ≡ judge_new_seats looks.now row }
 {
     if row.step == StepKind::Dereserved {

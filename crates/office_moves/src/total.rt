@@ -1,5 +1,6 @@
 // The seats of a whole matrix.
 ghost use Rattle.std.specs.Prelude.{◌≡◌, ◌≤◌};
+ghost use Rattle.office_base.specs.Limits.{most_raised_seats};
 ghost use Rattle.office_moves.specs.Raised.{seats_in_all, total_seats};
 
 use office_base::{OWN_STEPS, ProgId};
@@ -19,7 +20,7 @@ fn seats_in_all(steps: &Seatings) -> u32
 /// Returns the seats of all steps of all programmes. It takes no memory.
 pub fn total_seats(matrix: &Matrix) -> u32
     ensures total { result ≡ total_seats matrix.now }
-    ensures most { result ≤ 40000000 }
+    ensures most { result ≤ most_raised_seats }
 {
     let mut total = 0;
     for number in 0..matrix.count() {

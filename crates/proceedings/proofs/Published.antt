@@ -83,20 +83,20 @@ seeks_of facts state n round sound orderly e =
 pub less_as : (n m k : ℕ) → n < m → m ≡ k → n < k
 less_as n m k less e = omega arith
 
--- each programme of a published round has six lists
+-- each programme of a published round has a list for each step
 zip_length : {X Y : Type 0} (R : X → Y → Type 0) (xs : List X) (ys : List Y) → AllZip R xs ys → length xs ≡ length ys
 zip_length R [] [] all = refl
 zip_length R [] (y ∷ ys) all = absurd all
 zip_length R (x ∷ xs) [] all = absurd all
 zip_length R (x ∷ xs) (y ∷ ys) all = ap suc (zip_length R xs ys all.1)
 
-six_shown : (version : ℕ) (seats : ProgrammeSeats) (people : List Person) (programme : Programme) → ShowsFrom version seats people programme → length programme.steps ≡ 6
-six_shown version seats people programme shows =
+lists_shown : (version : ℕ) (seats : ProgrammeSeats) (people : List Person) (programme : Programme) → ShowsFrom version seats people programme → length programme.steps ≡ length all_steps
+lists_shown version seats people programme shows =
     sym (zip_length (ShowsStep version seats (in_merit seats.list people) shows.0) all_steps programme.steps shows.2)
 
-pub six_steps : (facts : SeasonFacts) (state : State) (n : ℕ) (round : Round) (p : ℕ) (programme : Programme) → IsCourse facts state → round_at state.rounds n ≡ Some round → slice_get round.programmes p ≡ Some programme
-    → length programme.steps ≡ 6
-six_steps facts state n round p programme course e there =
+pub a_list_each : (facts : SeasonFacts) (state : State) (n : ℕ) (round : Round) (p : ℕ) (programme : Programme) → IsCourse facts state → round_at state.rounds n ≡ Some round → slice_get round.programmes p ≡ Some programme
+    → length programme.steps ≡ length all_steps
+a_list_each facts state n round p programme course e there =
     let place = published state.rounds n round e in
     let table = matrix_of_round facts state (suc place.0) in
-    six_shown facts.version (seats_in table p) (applicants p (seekers_of table facts.people (lists_in_order facts) (seeks_then facts state place.0)) round.seats) programme ((course.made place.0 round place.2).shown p programme there)
+    lists_shown facts.version (seats_in table p) (applicants p (seekers_of table facts.people (lists_in_order facts) (seeks_then facts state place.0)) round.seats) programme ((course.made place.0 round place.2).shown p programme there)

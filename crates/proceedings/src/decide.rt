@@ -1,5 +1,6 @@
 // What the office decides about each request, by what it looks up.
 ghost use Rattle.std.specs.Prelude.{◌≡◌, ◌<◌, ◌≤◌, Some, IfSome, length};
+ghost use Rattle.office_base.specs.Limits.{most_raised_seats};
 ghost use Rattle.rank_lists.specs.Register.{row_of};
 ghost use Rattle.seeks.specs.Seek.{is_listed};
 ghost use Rattle.office_moves.specs.Facts.{find_programme};
@@ -170,7 +171,7 @@ impl Proceedings {
         requires { row.prog.0 < length self.now.season.matrix.programmes }
         ensures looks { result ≡ raise_facts self.now.season self.now.state row }
         ensures few { result.seats ≤ result.total }
-        ensures all { result.total ≤ 40000000 }
+        ensures all { result.total ≤ most_raised_seats }
     {
         self.raised.looks(self.window, self.season.rounds, row)
     }

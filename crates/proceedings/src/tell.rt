@@ -1,6 +1,7 @@
 // The replies to requests that change nothing.
 ghost use Rattle.std.specs.Prelude.{◌≡◌, ◌<◌, ◌≤◌, Some, true, length, option_map, IfOk, IsOk};
 ghost use Rattle.std.specs.Option.{unwrap_or};
+ghost use Rattle.office_base.specs.CategorySteps.{all_steps};
 ghost use Rattle.rank_lists.specs.Register.{row_of};
 ghost use Rattle.office_moves.specs.Decided.{decided, is_known};
 ghost use Rattle.office_moves.specs.Moves.{Does, Tells, programme_in, receipt, seat_reply, seated_in, told_seat, why_reply};
@@ -137,7 +138,7 @@ impl Proceedings {
         requires programme { prog.0 < length self.now.season.matrix.programmes }
         ensures lists { programme_in (round_at self.now.state.rounds number) prog.0
             ≡ Some result.now }
-        ensures steps { length result.now.steps ≡ 6 }
+        ensures steps { length result.now.steps ≡ length all_steps }
     {
         let _ = &self.season;
         match self.round(number) {

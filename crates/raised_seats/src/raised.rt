@@ -1,7 +1,7 @@
 // The seat matrix with all accepted raises.
 ghost use Rattle.std.specs.Prelude.{◌≡◌, ◌<◌, ◌≤◌, ◌+◌, ◌++◌, ◌∷◌, [], ℕ, false, length, OnOk};
 ghost use Rattle.std.specs.List.{list_any};
-ghost use Rattle.office_base.specs.Limits.{most_step_seats};
+ghost use Rattle.office_base.specs.Limits.{most_raised_seats, most_step_seats};
 ghost use Rattle.office_base.specs.declared.step.StepKind.{StepKind};
 ghost use Rattle.seat_matrix.specs.Matrix.{AreSeats, matrix_with, seating_in};
 ghost use Rattle.seat_matrix.specs.Seats.{is_dereserved};
@@ -63,7 +63,7 @@ impl RaisedSeats {
     /// Returns the seats of all steps of all programmes, without a walk over them.
     fn total(&self) -> u32
         ensures total { result ≡ total_seats self.now.matrix }
-        ensures most { result ≤ 40000000 }
+        ensures most { result ≤ most_raised_seats }
         ensures step { (prog : ℕ) (step : StepKind)
             → (seating_in self.now.matrix prog step).seats ≤ result }
         ensures seats { AreSeats self.now.matrix }
@@ -77,7 +77,7 @@ impl RaisedSeats {
         requires { row.prog.0 < length self.now.matrix.programmes }
         ensures looks { result ≡ looks_at self.now window rounds row }
         ensures few { result.seats ≤ result.total }
-        ensures all { result.total ≤ 40000000 }
+        ensures all { result.total ≤ most_raised_seats }
     {
         RaiseFacts {
             again: self.raises.has(row),

@@ -4,7 +4,7 @@ use Rattle.office_moves.specs.Moves.{programme_in}
 use Rattle.season_facts.specs.Season.{facts_of}
 use Rattle.office_moves.specs.State.{round_at}
 use Rattle.proceedings.specs.Kept.{state_of}
-use Rattle.proceedings.proofs.Published.{programmes_of, six_steps}
+use Rattle.proceedings.proofs.Published.{a_list_each, programmes_of}
 use Rattle.proceedings.proofs.Replies.{index_within, no_round, shown_at}
 use Rattle.proceedings.proofs.book.Proceedings.shown.Goals as goal
 
@@ -29,5 +29,5 @@ returns c =
     let lists = shown_at _ round.programmes c.from.result c.args.prog.0 c.index-as_slice-from.result c.as_slice.ensures c.from.ensures c.index-as_slice-from.is less in
     record {
       lists = ap (λ (o : Option Round). programme_in o c.args.prog.0) (sym c.round.ensures ∙ ap option_copied c.in-Some.is) ∙ lists;
-      steps = six_steps (facts_of a.season) (state_of a) c.args.number round c.args.prog.0 c.index-as_slice-from.result c.self.invariant.orderly.course there lists;
+      steps = a_list_each (facts_of a.season) (state_of a) c.args.number round c.args.prog.0 c.index-as_slice-from.result c.self.invariant.orderly.course there lists;
     }
