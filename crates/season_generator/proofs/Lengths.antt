@@ -5,11 +5,14 @@ use Rattle.std.specs.Fmt.{decimal}
 use Rattle.std.specs.List.{AllByRecursion, flat_map, range_with_len}
 use Rattle.std.proofs.lemmas.Fmt.{length-decimal-le}
 use Rattle.std.proofs.lemmas.List.FromFn.{length-map-range_with_len}
+use Rattle.office_base.specs.CategorySteps.{own_steps}
 use Rattle.office_base.specs.declared.person.Category.{Category}
 use Rattle.office_base.specs.declared.person.Category.TheVariants.{Gen}
+use Rattle.office_base.specs.declared.step.StepKind.{StepKind}
+use Rattle.office_base.specs.declared.step.StepKind.TheVariants.{Open}
 use Rattle.section_rows.specs.Rows.{Row}
-use Rattle.office_text.specs.Names.{category_name}
-use Rattle.season_generator.specs.Bundle.{choice_name, programme_code, profile_of, traits_name}
+use Rattle.office_text.specs.Names.{category_name, step_name}
+use Rattle.season_generator.specs.Bundle.{choice_name, programme_code, profile_of, step_seats, traits_name}
 use Rattle.season_generator.specs.Draws.{state_after, drawn}
 use Rattle.season_generator.specs.declared.profile.Profile.{Profile}
 use Rattle.season_generator.proofs.Numbers.{own-token}
@@ -17,7 +20,7 @@ use Rattle.season_generator.proofs.ListedPlaces.{ArePlaces}
 use Rattle.season_generator.proofs.Plain.{further, line_of, text-append, text_of}
 use Rattle.season_generator.proofs.Registered.{place_text, register_rows, rows_at as register_rows_at, row_words as register_words}
 use Rattle.season_generator.proofs.Requested.{answer_words, answers_at, cut_words, request_rows, window_at}
-use Rattle.season_generator.proofs.Seated.{AreFew, few-half, few-open, few-part, few-whole, matrix_rows, matrix_words, rows_of_programme}
+use Rattle.season_generator.proofs.Seated.{AreFew, few-made, matrix_rows, matrix_words, rows_of_programme, rows_of_steps}
 use Rattle.season_generator.proofs.Chosen.{choice_rows, number_at, row_words as choice_words, rows_at as choice_rows_at}
 
 -- ---- rows of short words
@@ -114,22 +117,26 @@ matrix-row p step seats women disabled low short few =
       ),
     )
 
-five-length : (a b c d e : List ℕ) → length a ≤ 71 → length b ≤ 71 → length c ≤ 71 → length d ≤ 71 → length e ≤ 71 → length (a ++ (b ++ (c ++ (d ++ (e ++ []))))) ≤ 355
-five-length a b c d e one two three four five =
-    omega (arith, one, two, three, four, five, length-append a (b ++ (c ++ (d ++ (e ++ [])))), length-append b (c ++ (d ++ (e ++ []))), length-append c (d ++ (e ++ [])), length-append d (e ++ []), length-append e [])
+name-short : (step : StepKind) → IsShort (step_name step)
+name-short Open = lit≤ tt
+name-short step = lit≤ tt
 
-programme-length : (size p : ℕ) → size ≤ 126 → p < 100 → length (text_of (rows_of_programme size p)) ≤ 355
-programme-length size p small low =
-    five-length (line_of (matrix_words p (codes "OPEN") (2 * size) (size / 2) (size / 8))) (line_of (matrix_words p (codes "EWS") (size / 2) (size / 8) 0)) (line_of (matrix_words p (codes "OBC") size (size / 4) (size / 16)))
-    (line_of (matrix_words p (codes "SC") (size / 2) (size / 8) 0)) (line_of (matrix_words p (codes "ST") (size / 4) 0 0))
-    (matrix-row p (codes "OPEN") (2 * size) (size / 2) (size / 8) low (lit≤ tt) (few-open size small)) (matrix-row p (codes "EWS") (size / 2) (size / 8) 0 low (lit≤ tt) (few-half size small))
-    (matrix-row p (codes "OBC") size (size / 4) (size / 16) low (lit≤ tt) (few-whole size small)) (matrix-row p (codes "SC") (size / 2) (size / 8) 0 low (lit≤ tt) (few-half size small))
-    (matrix-row p (codes "ST") (size / 4) 0 0 low (lit≤ tt) (few-part size small))
+steps-length : (size p : ℕ) (steps : List StepKind) → size ≤ 126 → p < 100 → length (text_of (rows_of_steps size p steps)) ≤ length steps * 71
+steps-length size p [] small low = omega arith
+steps-length size p (step ∷ steps) small low =
+    let has = step_seats size step in
+    let words = matrix_words p (step_name step) has.seats has.women has.disabled in
+    let here : length (line_of words) ≤ 71 = matrix-row p (step_name step) has.seats has.women has.disabled low (name-short step) (few-made size step small) in
+    omega (arith, here, steps-length size p steps small low, length-append (line_of words) (text_of (rows_of_steps size p steps)))
 
-pub matrix-length : (size count : ℕ) → size ≤ 126 → count ≤ 100 → length (text_of (matrix_rows size count)) ≤ 100 + count * 355
+-- the bytes of the rows of a programme, at most
+abbrev pub most_bytes : ℕ
+most_bytes = length own_steps * 71
+
+pub matrix-length : (size count : ℕ) → size ≤ 126 → count ≤ 100 → length (text_of (matrix_rows size count)) ≤ 100 + count * most_bytes
 matrix-length size count small most =
     let rest = flat_map (rows_of_programme size) (range_with_len 0 count) in
-    let all : length (text_of rest) ≤ count * 355 = range-length (rows_of_programme size) 355 0 count (λ i less. programme-length size i small (omega (arith, less, most))) in
+    let all : length (text_of rest) ≤ count * most_bytes = range-length (rows_of_programme size) most_bytes 0 count (λ i less. steps-length size i own_steps small (omega (arith, less, most))) in
     omega (arith, all)
 
 -- ---- the choices

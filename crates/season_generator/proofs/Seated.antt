@@ -1,19 +1,20 @@
 -- The matrix that is made up has no fault, and which programmes it has.
-use Rattle.std.proofs.Common.{◌≡◌, ◌≤◌, ◌<◌, ◌+◌, ◌*◌, ◌/◌, ◌%◌, ◌==◌, ℕ, zero, suc, true, false, cond, ◌&&◌, nat_lt, List, [], ◌∷◌, ◌++◌, Option, Some, None, Ok, length, get_or, map, refl, sym, ap, ◌∙◌, append_assoc, arith, sum}
+use Rattle.std.proofs.Common.{◌≡◌, ◌≤◌, ◌<◌, ◌+◌, ◌*◌, ◌/◌, ◌%◌, ◌==◌, ℕ, zero, suc, true, false, cond, ◌&&◌, nat_lt, List, [], ◌∷◌, ◌++◌, Option, Some, None, Ok, length, get_or, map, refl, sym, ap, ◌∙◌, append_assoc, subst, add-one, arith, sum}
 use Rattle.std.specs.Prelude.{bytes_eq, codes}
 use Rattle.std.specs.Fmt.{decimal}
 use Rattle.std.specs.List.{flat_map, list_any, range_with_len}
-use Rattle.std.proofs.lemmas.Bool.{and_from, and_right, cond-false, cond-true, eq-eqb, false_from_ne_true, le-ltb, lt-leb, ne_eqb, or_from, or_left, or_right}
+use Rattle.std.proofs.lemmas.Bool.{and_from, and_parts, and_right, cond-false, cond-true, eq-eqb, eqb-true, false_from_ne_true, le-ltb, lt-leb, ne_eqb, or_from, or_left, or_right}
 use Rattle.std.proofs.lemmas.Fmt.{decimal_digit}
-use Rattle.std.proofs.lemmas.List.{append-nil}
 use Rattle.std.proofs.lemmas.List.FromFn.{length-map-range_with_len, map-range_with_len_more}
 use Rattle.std.proofs.lemmas.Slice.Eq.{bytes_eq-Decides}
 use Rattle.office_base.specs.Codes.{is_code, is_code_byte}
+use Rattle.office_base.specs.CategorySteps.{category_steps, own_steps}
 use Rattle.office_base.specs.Limits.{most_matrix_seats, most_programmes, most_step_seats}
 use Rattle.office_base.specs.StepNumbers.{step_number}
 use Rattle.office_base.specs.declared.step.StepKind.{StepKind}
-use Rattle.office_base.specs.declared.step.StepKind.TheVariants.{Open, Ews, Obc, Sc, St}
-use Rattle.office_text.specs.Names.{code_of, step_of}
+use Rattle.office_base.specs.declared.step.StepKind.TheVariants.{Open, Obc, St, Dereserved}
+use Rattle.office_base.proofs.StepNumbers.{numbered}
+use Rattle.office_text.specs.Names.{code_of, step_name, step_of}
 use Rattle.office_text.specs.Number.{AreInverse, number_within}
 use Rattle.section_rows.specs.Rows.{Row}
 use Rattle.section_rows.specs.Steps.{or_else}
@@ -25,7 +26,7 @@ use Rattle.seat_matrix.specs.declared.entry.Home.{Home}
 use Rattle.seat_matrix.specs.declared.fault.MatrixKind.TheVariants.{BadHeader}
 use Rattle.seat_matrix.specs.declared.seats.Seating.{Seating}
 use Rattle.seat_matrix.proofs.SeatsLemmas.{seats-push}
-use Rattle.season_generator.specs.Bundle.{programme_code, lines, matrix_row, programme_rows}
+use Rattle.season_generator.specs.Bundle.{lines, matrix_row, programme_code, programme_rows, step_row, step_seats}
 use Rattle.season_generator.proofs.Numbers.{are-digits, digit-byte, digit-plain, not-empty, read-within}
 use Rattle.season_generator.proofs.Plain.{AreWordRows, IsWordRow, is_word, line_of, text_of}
 use Rattle.season_generator.proofs.Ranges.{Reads, first-found, none-found, reads-range, reads-table, text-range, words-range}
@@ -98,11 +99,15 @@ row-is-words p step seats women disabled low word few =
     let part = few.part in
     (code-word p low, (institute-word p low, ((are-digits (1 + p % 2) (omega arith)).word, (word, ((are-digits seats (omega (arith, total))).word, ((are-digits women (omega (arith, total, part))).word, ((are-digits disabled (omega (arith, total, part))).word, tt)))))))
 
+-- the seats of a programme, at most
+abbrev most_here : ℕ
+most_here = length own_steps * 252
+
 -- Where the rows of a programme are read up to the step of this number.
 record IsAt (p done : ℕ) (entries : List Entry) : Type 0 where
   free : (step : ℕ) → done ≤ step → seating_at (programme_code p) step entries ≡ None
   settled : settles (home_at (programme_code p) entries) (length (codes_of entries)) (home_made p) ≡ Ok (home_made p)
-  seats : all_seats entries ≤ p * 1260 + done * 252
+  seats : all_seats entries ≤ p * most_here + done * 252
 
 count-read : AreInverse → (n : ℕ) → n ≤ 252 → count_of (decimal n) ≡ Some n
 count-read inverse n low = read-within inverse 0 most_step_seats n (omega (arith, low)) (omega arith) (omega (arith, low))
@@ -110,7 +115,7 @@ count-read inverse n low = read-within inverse 0 most_step_seats n (omega (arith
 protection-read : AreInverse → (n : ℕ) → n ≤ 252 → protection_of (decimal n) ≡ Some n
 protection-read inverse n low = cond-false (length (decimal n) == 0) (Some 0) (count_of (decimal n)) (not-empty (decimal n) (are-digits n (omega (arith, low))).word) ∙ count-read inverse n low
 
-row-read : AreInverse → (p : ℕ) (step : StepKind) (name : List ℕ) (seats women disabled done : ℕ) (entries : List Entry) → p < 100 → done ≤ 4 → AreFew seats women disabled → step_of name ≡ Some step → step_number step ≡ done
+row-read : AreInverse → (p : ℕ) (step : StepKind) (name : List ℕ) (seats women disabled done : ℕ) (entries : List Entry) → p < 100 → done < length own_steps → AreFew seats women disabled → step_of name ≡ Some step → step_number step ≡ done
     → IsAt p done entries → reading entries (matrix_words p name seats women disabled) ≡ Ok (entry_made p step seats women disabled)
 unfolding reading
 row-read inverse p step name seats women disabled done entries low early few named number at =
@@ -150,87 +155,79 @@ at-next p step seats women disabled done entries few number at =
 
 -- ---- the rows of a programme
 
+-- the row of a step, and what it gives
+abbrev row_made : ℕ → ℕ → StepKind → Row
+row_made size p step = matrix_words p (step_name step) (step_seats size step).seats (step_seats size step).women (step_seats size step).disabled
+
+abbrev entry_of : ℕ → ℕ → StepKind → Entry
+entry_of size p step = entry_made p step (step_seats size step).seats (step_seats size step).women (step_seats size step).disabled
+
+-- those of some steps
+abbrev pub rows_of_steps : ℕ → ℕ → List StepKind → List Row
+rows_of_steps size p steps = map (row_made size p) steps
+
+abbrev entries_of_steps : ℕ → ℕ → List StepKind → List Entry
+entries_of_steps size p steps = map (entry_of size p) steps
+
 abbrev pub rows_of_programme : ℕ → ℕ → List Row
-rows_of_programme size p =
-    matrix_words p (codes "OPEN") (2 * size) (size / 2) (size / 8) ∷ matrix_words p (codes "EWS") (size / 2) (size / 8) 0
-    ∷ matrix_words p (codes "OBC") size (size / 4) (size / 16) ∷ matrix_words p (codes "SC") (size / 2) (size / 8) 0 ∷ matrix_words p (codes "ST") (size / 4) 0 0 ∷ []
+rows_of_programme size p = rows_of_steps size p own_steps
 
 abbrev pub entries_of_programme : ℕ → ℕ → List Entry
-entries_of_programme size p =
-    entry_made p Open (2 * size) (size / 2) (size / 8) ∷ entry_made p Ews (size / 2) (size / 8) 0
-    ∷ entry_made p Obc size (size / 4) (size / 16) ∷ entry_made p Sc (size / 2) (size / 8) 0 ∷ entry_made p St (size / 4) 0 0 ∷ []
+entries_of_programme size p = entries_of_steps size p own_steps
 
 -- the entries of the programmes before one
 abbrev pub entries_to : ℕ → ℕ → List Entry
 entries_to size p = flat_map (entries_of_programme size) (range_with_len 0 p)
 
-pub few-open : (size : ℕ) → size ≤ 126 → AreFew (2 * size) (size / 2) (size / 8)
-few-open size small = record { total = omega (arith, small); part = omega (arith, small) }
+pub few-made : (size : ℕ) (step : StepKind) → size ≤ 126 → AreFew (step_seats size step).seats (step_seats size step).women (step_seats size step).disabled
+few-made size Open small = record { total = omega (arith, small); part = omega (arith, small) }
+few-made size Obc small = record { total = omega (arith, small); part = omega (arith, small) }
+few-made size St small = record { total = omega (arith, small); part = omega (arith, small) }
+few-made size step small = record { total = omega (arith, small); part = omega (arith, small) }
 
-pub few-half : (size : ℕ) → size ≤ 126 → AreFew (size / 2) (size / 8) 0
-few-half size small = record { total = omega (arith, small); part = omega (arith, small) }
+-- the name of a step with seats of its own is read
+name-read : (step : StepKind) → step_number step < length own_steps → step_of (step_name step) ≡ Some step
+name-read Dereserved below = absurd (omega (arith, below))
+name-read step below = refl
 
-pub few-whole : (size : ℕ) → size ≤ 126 → AreFew size (size / 4) (size / 16)
-few-whole size small = record { total = omega (arith, small); part = omega (arith, small) }
+name-word : (step : StepKind) → is_word (step_name step) ≡ true
+name-word Open = refl
+name-word step = refl
 
-pub few-part : (size : ℕ) → size ≤ 126 → AreFew (size / 4) 0 0
-few-part size small = record { total = omega (arith, small); part = omega (arith, small) }
-
-programme-reads : AreInverse → (size p : ℕ) (entries : List Entry) → size ≤ 126 → p < 100 → IsAt p 0 entries → Reads reading entries (rows_of_programme size p) (entries_of_programme size p)
-programme-reads inverse size p entries small low at =
-    let ews = at-next p Open (2 * size) (size / 2) (size / 8) 0 entries (few-open size small) refl at in
-    let obc = at-next p Ews (size / 2) (size / 8) 0 1 _ (few-half size small) refl ews in
-    let sc = at-next p Obc size (size / 4) (size / 16) 2 _ (few-whole size small) refl obc in
-    let st = at-next p Sc (size / 2) (size / 8) 0 3 _ (few-half size small) refl sc in (
-      row-read inverse p Open (codes "OPEN") (2 * size) (size / 2) (size / 8) 0 entries low (omega arith) (few-open size small) refl refl at,
-      (
-        row-read inverse p Ews (codes "EWS") (size / 2) (size / 8) 0 1 _ low (omega arith) (few-half size small) refl refl ews,
-        (
-          row-read inverse p Obc (codes "OBC") size (size / 4) (size / 16) 2 _ low (omega arith) (few-whole size small) refl refl obc,
-          (
-            row-read inverse p Sc (codes "SC") (size / 2) (size / 8) 0 3 _ low (omega arith) (few-half size small) refl refl sc,
-            (
-              row-read inverse p St (codes "ST") (size / 4) 0 0 4 _ low (omega arith) (few-part size small) refl refl st,
-              tt,
-            ),
-          ),
-        ),
-      ),
+steps-read : AreInverse → (size p done : ℕ) (steps : List StepKind) (entries : List Entry) → size ≤ 126 → p < 100 → done + length steps ≤ length own_steps → numbered done steps ≡ true → IsAt p done entries
+    → Reads reading entries (rows_of_steps size p steps) (entries_of_steps size p steps)
+steps-read inverse size p done [] entries small low within numbers at = tt
+steps-read inverse size p done (step ∷ steps) entries small low within numbers at =
+    let parts = and_parts (step_number step == done) (numbered (suc done) steps) numbers in
+    let number : step_number step ≡ done = eqb-true (step_number step) done parts.0 in
+    let has = step_seats size step in
+    let few = few-made size step small in
+    let next : IsAt p (suc done) (entries ++ entry_of size p step ∷ []) = subst (λ n. IsAt p n (entries ++ entry_of size p step ∷ [])) (add-one done) (at-next p step has.seats has.women has.disabled done entries few number at) in (
+      row-read inverse p step (step_name step) has.seats has.women has.disabled done entries low (omega (arith, within)) few (name-read step (omega (arith, within, number))) number at,
+      steps-read inverse size p (suc done) steps (entries ++ entry_of size p step ∷ []) small low (omega (arith, within)) parts.1 next,
     )
 
-programme-words : (size p : ℕ) → size ≤ 126 → p < 100 → AreWordRows (rows_of_programme size p)
-programme-words size p small low = (
-  row-is-words p (codes "OPEN") (2 * size) (size / 2) (size / 8) low refl (few-open size small),
-  (
-    row-is-words p (codes "EWS") (size / 2) (size / 8) 0 low refl (few-half size small),
-    (
-      row-is-words p (codes "OBC") size (size / 4) (size / 16) low refl (few-whole size small),
-      (
-        row-is-words p (codes "SC") (size / 2) (size / 8) 0 low refl (few-half size small),
-        (
-          row-is-words p (codes "ST") (size / 4) 0 0 low refl (few-part size small),
-          tt,
-        ),
-      ),
-    ),
-  ),
-)
+programme-reads : AreInverse → (size p : ℕ) (entries : List Entry) → size ≤ 126 → p < 100 → IsAt p 0 entries → Reads reading entries (rows_of_programme size p) (entries_of_programme size p)
+programme-reads inverse size p entries small low at = steps-read inverse size p 0 own_steps entries small low (omega arith) refl at
 
-joined : (a b c d e : List ℕ) → a ++ b ++ c ++ d ++ e ≡ a ++ (b ++ (c ++ (d ++ (e ++ []))))
-joined a b c d e = simp (append_assoc, append-nil {A = ℕ})
+steps-words : (size p : ℕ) (steps : List StepKind) → size ≤ 126 → p < 100 → AreWordRows (rows_of_steps size p steps)
+steps-words size p [] small low = tt
+steps-words size p (step ∷ steps) small low =
+    let has = step_seats size step in
+    (row-is-words p (step_name step) has.seats has.women has.disabled low (name-word step) (few-made size step small), steps-words size p steps small low)
+
+programme-words : (size p : ℕ) → size ≤ 126 → p < 100 → AreWordRows (rows_of_programme size p)
+programme-words size p small low = steps-words size p own_steps small low
+
+steps-text : (size p : ℕ) (steps : List StepKind) → flat_map (step_row size p) steps ≡ text_of (rows_of_steps size p steps)
+steps-text size p [] = refl
+steps-text size p (step ∷ steps) =
+    let has = step_seats size step in
+    ap (λ (l : List ℕ). l ++ flat_map (step_row size p) steps) (matrix-line p (step_name step) has.seats has.women has.disabled) ∙ ap (λ (l : List ℕ). line_of (row_made size p step) ++ l) (steps-text size p steps)
 
 programme-text : (size p : ℕ) → programme_rows size p ≡ text_of (rows_of_programme size p)
 unfolding programme_rows
-programme-text size p =
-    rw (
-      matrix-line p (codes "OPEN") (2 * size) (size / 2) (size / 8),
-      matrix-line p (codes "EWS") (size / 2) (size / 8) 0,
-      matrix-line p (codes "OBC") size (size / 4) (size / 16),
-      matrix-line p (codes "SC") (size / 2) (size / 8) 0,
-      matrix-line p (codes "ST") (size / 4) 0 0,
-    )
-    (joined (line_of (matrix_words p (codes "OPEN") (2 * size) (size / 2) (size / 8))) (line_of (matrix_words p (codes "EWS") (size / 2) (size / 8) 0)) (line_of (matrix_words p (codes "OBC") size (size / 4) (size / 16)))
-    (line_of (matrix_words p (codes "SC") (size / 2) (size / 8) 0)) (line_of (matrix_words p (codes "ST") (size / 4) 0 0)))
+programme-text size p = steps-text size p own_steps
 
 -- ---- all programmes
 
@@ -253,13 +250,16 @@ none-same : (p a k : ℕ) → a + k ≤ p → list_any (bytes_eq (programme_code
 none-same p a zero less = refl
 none-same p a (suc k) less = or_from _ _ (codes-apart p a (λ e. omega (arith, e, less))) (none-same p (a + 1) k (omega (arith, less)))
 
--- the codes after the five entries of a new programme
-five-codes : (size p : ℕ) (held : List (List ℕ)) → list_any (bytes_eq (programme_code p)) held ≡ false → codes_after held (entries_of_programme size p) ≡ held ++ programme_code p ∷ []
-five-codes size p held new =
-    let code = programme_code p in
-    let old = with-old held code in
-    ap (λ (l : List (List ℕ)). with_code (with_code (with_code (with_code l code) code) code) code) (with-new held code new)
-    ∙ ap (λ (l : List (List ℕ)). with_code (with_code (with_code l code) code) code) old ∙ ap (λ (l : List (List ℕ)). with_code (with_code l code) code) old ∙ ap (λ (l : List (List ℕ)). with_code l code) old ∙ old
+-- more entries of a programme whose code is there
+codes-same : (size p : ℕ) (steps : List StepKind) (held : List (List ℕ)) → codes_after (held ++ programme_code p ∷ []) (entries_of_steps size p steps) ≡ held ++ programme_code p ∷ []
+codes-same size p [] held = refl
+codes-same size p (step ∷ steps) held = ap (λ (l : List (List ℕ)). codes_after l (entries_of_steps size p steps)) (with-old held (programme_code p)) ∙ codes-same size p steps held
+
+-- the codes after the entries of a new programme
+codes-new : (size p : ℕ) (held : List (List ℕ)) → list_any (bytes_eq (programme_code p)) held ≡ false → codes_after held (entries_of_programme size p) ≡ held ++ programme_code p ∷ []
+codes-new size p held new =
+    let rest = map (λ row. row.step) category_steps in
+    ap (λ (l : List (List ℕ)). codes_after l (entries_of_steps size p rest)) (with-new held (programme_code p) new) ∙ codes-same size p rest held
 
 codes-range : (size a k : ℕ) → codes_after (map programme_code (range_with_len 0 a)) (flat_map (entries_of_programme size) (range_with_len a k)) ≡ map programme_code (range_with_len 0 (a + k))
 codes-range size a zero = ap (λ (n : ℕ). map programme_code (range_with_len 0 n)) (omega arith)
@@ -267,7 +267,7 @@ codes-range size a (suc k) =
     let held = map programme_code (range_with_len 0 a) in
     let rest = flat_map (entries_of_programme size) (range_with_len (a + 1) k) in
     codes-append held (entries_of_programme size a) rest
-    ∙ ap (λ (l : List (List ℕ)). codes_after l rest) (five-codes size a held (none-same a 0 a (omega arith)) ∙ sym (map-range_with_len_more programme_code 0 a a (omega arith)))
+    ∙ ap (λ (l : List (List ℕ)). codes_after l rest) (codes-new size a held (none-same a 0 a (omega arith)) ∙ sym (map-range_with_len_more programme_code 0 a a (omega arith)))
     ∙ codes-range size (a + 1) k ∙ ap (λ (n : ℕ). map programme_code (range_with_len 0 n)) (omega arith)
 
 -- The programmes that come before one.
@@ -278,13 +278,18 @@ seats-append : (seats : ℕ) (xs ys : List Entry) → seats_after seats (xs ++ y
 seats-append seats [] ys = refl
 seats-append seats (x ∷ xs) ys = seats-append (seats + x.seating.seats) xs ys
 
-seats-range : (size a k seats : ℕ) → size ≤ 126 → seats_after seats (flat_map (entries_of_programme size) (range_with_len a k)) ≤ seats + k * 1260
+-- the seats of some steps
+seats-few : (size p : ℕ) (steps : List StepKind) (seats : ℕ) → size ≤ 126 → seats_after seats (entries_of_steps size p steps) ≤ seats + length steps * 252
+seats-few size p [] seats small = omega arith
+seats-few size p (step ∷ steps) seats small = omega (arith, (few-made size step small).total, seats-few size p steps (seats + (step_seats size step).seats) small)
+
+seats-range : (size a k seats : ℕ) → size ≤ 126 → seats_after seats (flat_map (entries_of_programme size) (range_with_len a k)) ≤ seats + k * most_here
 seats-range size a zero seats small = omega arith
 seats-range size a (suc k) seats small =
     let here = seats_after seats (entries_of_programme size a) in
     let rest = flat_map (entries_of_programme size) (range_with_len (a + 1) k) in
-    let more : seats_after here rest ≤ here + k * 1260 = seats-range size (a + 1) k here small in
-    let few : here ≤ seats + 1260 = omega (arith, small) in
+    let more : seats_after here rest ≤ here + k * most_here = seats-range size (a + 1) k here small in
+    let few : here ≤ seats + most_here = seats-few size a own_steps seats small in
     omega (arith, seats-append seats (entries_of_programme size a) rest, more, few)
 
 at-programme : (size p : ℕ) → size ≤ 126 → p < 100 → IsAt p 0 (entries_to size p)

@@ -5,11 +5,15 @@
 use Rattle.std.specs.Prelude.{ℕ, zero, suc, ◌+◌, ◌-◌, ◌*◌, ◌/◌, ◌%◌, Bool, true, false, ◌==◌, ◌&&◌, nat_lt, List, [], ◌∷◌, ◌++◌, length, drop, swap, slice_index, codes, if◌then◌else◌}
 use Rattle.std.specs.Fmt.{decimal}
 use Rattle.std.specs.List.{flat_map, range_with_len}
+use Rattle.office_base.specs.CategorySteps.{own_steps}
 use Rattle.office_base.specs.declared.person.Category.{Category}
 use Rattle.office_base.specs.declared.person.Category.TheVariants.{Gen, Ews, Obc, Sc, St}
-use Rattle.office_text.specs.Names.{category_name}
+use Rattle.office_base.specs.declared.step.StepKind.{StepKind}
+use Rattle.office_base.specs.declared.step.StepKind.TheVariants.{Open, Obc as ObcStep, St as StStep}
+use Rattle.office_text.specs.Names.{category_name, step_name}
 use Rattle.season_generator.specs.Draws.{state_after, drawn, next}
 use Rattle.season_generator.specs.declared.profile.Profile.{Profile}
+use Rattle.season_generator.specs.declared.programmes.StepSeats.{StepSeats}
 
 -- the lines of the numbers 0 to n - 1
 unfoldable pub lines : ℕ → (ℕ → List ℕ) → List ℕ
@@ -97,12 +101,21 @@ matrix_row programme step seats women disabled =
     programme_code programme ++ codes ",I" ++ decimal (programme / 10) ++ codes "," ++ decimal (1 + programme % 2) ++ codes "," ++ step ++ codes "," ++ decimal seats
     ++ codes "," ++ decimal women ++ codes "," ++ decimal disabled ++ codes "\n"
 
--- the rows of a programme, where the size is that of its OBC step
+-- what a programme has in a step, where the size is its seats for OBC
+abbrev pub step_seats : ℕ → StepKind → StepSeats
+step_seats size Open = record { seats = 2 * size; women = size / 2; disabled = size / 8 }
+step_seats size ObcStep = record { seats = size; women = size / 4; disabled = size / 16 }
+step_seats size StStep = record { seats = size / 4; women = 0; disabled = 0 }
+step_seats size step = record { seats = size / 2; women = size / 8; disabled = 0 }
+
+-- the row of a step of a programme of a size
+abbrev pub step_row : ℕ → ℕ → StepKind → List ℕ
+step_row size programme step =
+    matrix_row programme (step_name step) (step_seats size step).seats (step_seats size step).women (step_seats size step).disabled
+
+-- the rows of a programme of a size: one for each step that has seats of its own
 unfoldable pub programme_rows : ℕ → ℕ → List ℕ
-programme_rows size programme =
-    matrix_row programme (codes "OPEN") (2 * size) (size / 2) (size / 8) ++ matrix_row programme (codes "EWS") (size / 2) (size / 8) 0
-    ++ matrix_row programme (codes "OBC") size (size / 4) (size / 16) ++ matrix_row programme (codes "SC") (size / 2) (size / 8) 0
-    ++ matrix_row programme (codes "ST") (size / 4) 0 0
+programme_rows size programme = flat_map (step_row size programme) own_steps
 
 -- the matrix: its header, and the rows of 100 programmes, whose size grows with the candidates
 unfoldable pub matrix_text : ℕ → List ℕ
