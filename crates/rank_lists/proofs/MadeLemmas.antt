@@ -21,7 +21,7 @@ use Rattle.office_base.specs.Lists.{Pairwise}
 use Rattle.office_base.specs.declared.person.CandId.{CandId}
 use Rattle.office_base.specs.declared.person.Person.{Person}
 use Rattle.rank_lists.specs.Builder.{Keeps}
-use Rattle.rank_lists.specs.Register.{AreRanks, IsKeptRegister, IsRegister, find_holder, find_person, row_of}
+use Rattle.rank_lists.specs.Register.{IsKeptRegister, IsRegister, find_holder, find_person, row_of}
 use Rattle.rank_lists.specs.declared.entry.Entry.{Entry}
 use Rattle.rank_lists.specs.declared.builder.RegisterBuilder.{RegisterBuilder}
 use Rattle.rank_lists.proofs.LawsLemmas.{ranks_sound}
@@ -78,24 +78,23 @@ sorted_is [] rise = refl
 sorted_is (e ∷ es) rise = and_from _ _ (below_from e.0 es rise.0) (sorted_is es rise.1)
 
 -- The values of a builder are the register of its entries.
-pub made : (entries : List Entry) (builder : RegisterBuilder) (people : List Person) → Keeps entries builder → people ≡ tree.values builder.people → tree.IsOrdered nat_cmp builder.people
-    → tree.IsOrdered (slice_cmp nat_cmp) builder.holders → IsRegister entries (record { people = people; holders = builder.holders.entries })
-made entries builder people keeps e ordered tokens = record {
+pub made : (entries : List Entry) (builder : RegisterBuilder) (people : List Person) (holders : List (List ℕ × CandId)) → Keeps entries builder → people ≡ tree.values builder.people → tree.IsOrdered nat_cmp builder.people
+    → holders ≡ builder.holders.entries → tree.IsOrdered (slice_cmp nat_cmp) builder.holders → IsRegister entries (record { people = people; holders = holders })
+made entries builder people holders keeps e ordered same tokens = record {
   rising = rw e (rising_values builder.people.entries keeps.keyed ordered);
   people = λ id. ap (find_person id) e ∙ find-value id builder.people.entries keeps.keyed ∙ keeps.people id;
-  sorted = sorted_is builder.holders.entries tokens;
-  holders = λ token. find-holder token builder.holders.entries ∙ keeps.holders token;
+  sorted = rw same (sorted_is builder.holders.entries tokens);
+  holders = λ token. ap (find_holder token) same ∙ find-holder token builder.holders.entries ∙ keeps.holders token;
 }
 
--- What is the register of sound entries is sound.
-made_ranks : (entries : List Entry) (builder : RegisterBuilder) (people : List Person) → Keeps entries builder → people ≡ tree.values builder.people → tree.IsOrdered nat_cmp builder.people
-    → tree.IsOrdered (slice_cmp nat_cmp) builder.holders → AreRanks (record { people = people; holders = builder.holders.entries })
-made_ranks entries builder people keeps e ordered tokens = ranks_sound entries _ keeps.sound (made entries builder people keeps e ordered tokens)
-
 -- The register of sound entries, with the ids of its people, is one.
-pub made_sound : (entries : List Entry) (builder : RegisterBuilder) (people : List Person) (ids : List ℕ) → Keeps entries builder → people ≡ tree.values builder.people → tree.IsOrdered nat_cmp builder.people
-    → tree.IsOrdered (slice_cmp nat_cmp) builder.holders → ids ≡ map (λ p. p.id.0) people → IsKeptRegister ids (record { people = people; holders = builder.holders.entries })
-made_sound entries builder people ids keeps e ordered tokens same = record { sound = made_ranks entries builder people keeps e ordered tokens; same = same }
+pub made_sound : (entries : List Entry) (builder : RegisterBuilder) (people : List Person) (ids : List ℕ) (holders : List (List ℕ × CandId)) → Keeps entries builder → people ≡ tree.values builder.people → tree.IsOrdered nat_cmp builder.people
+    → holders ≡ builder.holders.entries → tree.IsOrdered (slice_cmp nat_cmp) builder.holders → ids ≡ map (λ p. p.id.0) people → IsKeptRegister ids (record { people = people; holders = holders })
+made_sound entries builder people ids holders keeps e ordered same tokens counted = record {
+  sound = ranks_sound entries _ keeps.sound (made entries builder people holders keeps e ordered same tokens);
+  same = counted;
+  rising = rw same tokens;
+}
 
 all_at : (P : Person → Type 0) (people : List Person) (i : ℕ) (d : Person) → AllByRecursion P people → i < length people → P (get_or people i d)
 all_at P [] i d all within = absurd (omega arith)

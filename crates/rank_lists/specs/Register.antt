@@ -2,6 +2,8 @@
 use Rattle.std.specs.Prelude.{◌≡◌, ◌<◌, ◌≤◌, ◌+◌, ℕ, Bool, true, false, ◌==◌, ◌&&◌, ◌||◌, nat_le, List, [], ◌∷◌, is_some, IsSome, IsTrue, Option, Some, None, Result, Ok, length, map, slice_index_or, bytes_eq, codes, option_map, if◌then◌else◌}
 use Rattle.std.specs.Cmp.Lexicographic.{slice_cmp}
 use Rattle.std.specs.FinMap.{is_sorted}
+use Rattle.std.specs.List.Sorted.{IsStrictlySortedBy}
+use Rattle.std.specs.Map.{keys_of}
 use Rattle.std.specs.Ordering.{nat_cmp}
 use Rattle.office_base.specs.Codes.{is_token}
 use Rattle.office_base.specs.Limits.{last_id, most_candidates}
@@ -161,10 +163,11 @@ pub record AreRanks (ranks : Ranks) : Type 0 where
   pub registered : (id : ℕ) (person : Person) → find_person id ranks.people ≡ Some person → IsRegistered person
   pub tokens : (token : List ℕ) → IsSome (find_holder token ranks.holders) → IsTrue (is_token token)
 
--- what a register keeps: its ranks, and the ids of its people in their order
+-- what a register keeps: its ranks with the tokens in rising order, and the ids of its people in their order
 pub record IsKeptRegister (ids : List ℕ) (ranks : Ranks) : Type 0 where
   pub sound : AreRanks ranks
   pub same : ids ≡ map (λ person. person.id.0) ranks.people
+  pub rising : IsStrictlySortedBy (slice_cmp nat_cmp) (keys_of ranks.holders)
 
 -- a body's rows have no fault, and these are the ranks of their entries
 abbrev pub IsRead : List Row → Ranks → Type 0

@@ -4,7 +4,6 @@ ghost use Rattle.office_base.specs.Person.{number_of};
 ghost use Rattle.section_rows.specs.Rows.{Row, field};
 ghost use Rattle.std.specs.BTreeMap as tree;
 ghost use Rattle.std.specs.BTreeSet as sorted;
-ghost use Rattle.std.specs.Cmp.Lexicographic.{slice_cmp};
 ghost use Rattle.std.specs.Ordering.{nat_cmp};
 ghost use Rattle.rank_lists.specs.declared.entry.Entry.{Entry};
 ghost use Rattle.rank_lists.specs.Register.{places_of, is_relaxed, any_relaxed, is_general, is_number, is_taken, repeats};
@@ -152,12 +151,11 @@ impl RegisterBuilder {
             holders,
             ..
         } = self;
-        rise(&holders);
         let people = in_order(alloc, &people)?;
         Ok(Register {
             ids: ids_of(alloc, &people)?,
             people,
-            holders,
+            holders: holders.into_iter().collect(alloc)?,
         })
     }
 }
@@ -218,13 +216,6 @@ fn in_order(alloc: Global, people: &BTreeMap<u32, Person>) -> Result<Vec<Person>
     ensures ordered { tree.IsOrdered nat_cmp people.now }
 {
     people.values().copied().collect(alloc)
-}
-
-/// Shows that tokens rise.
-fn rise(holders: &BTreeMap<Token, CandId>)
-    ensures { tree.IsOrdered (slice_cmp nat_cmp) holders.now }
-{
-    let _ = holders.len();
 }
 
 /// The ids of the people, in their order.

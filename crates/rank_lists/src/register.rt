@@ -7,19 +7,18 @@ ghost use Rattle.rank_lists.specs.Register.{find_person, find_holder, place_of_p
 
 use crate::builder::RegisterBuilder;
 use crate::fault::RankFault;
-use office_base::{CandId, ListId, OutOfMemory, Person, Place, Token, better};
+use office_base::{CandId, ListId, OutOfMemory, Person, Place, Token, better, find_sorted};
 use section_rows::read_table;
 use std::alloc::Global;
-use std::collections::BTreeMap;
 use std::marker::Model;
 
-/// Holds the candidates with their places on the merit lists, and who holds which token. It keeps the ids once more
-/// by themselves: a search among them reads few bytes.
+/// Holds the candidates with their places on the merit lists, and who holds which token, in the order of the tokens.
+/// It keeps the ids once more by themselves: a search among them reads few bytes.
 #[derive(Drop)]
 pub struct Register {
     pub(crate) ids: Vec<u32>,
     pub(crate) people: Vec<Person>,
-    pub(crate) holders: BTreeMap<Token, CandId>,
+    pub(crate) holders: Vec<(Token, CandId)>,
 }
 
 impl Model for Register {
@@ -27,9 +26,9 @@ impl Model for Register {
 
     ghost Value = { Ranks };
 
-    ghost view = { λ a. record { people = a.people.items; holders = a.holders.entries } };
+    ghost view = { λ a. record { people = a.people.items; holders = a.holders.items } };
 
-    ghost invariant = { λ a. IsKeptRegister a.ids.items (record { people = a.people.items; holders = a.holders.entries }) };
+    ghost invariant = { λ a. IsKeptRegister a.ids.items (record { people = a.people.items; holders = a.holders.items }) };
 }
 
 impl Register {
@@ -52,7 +51,7 @@ impl Register {
         Ok(Register {
             ids: Vec::from_slice(alloc, self.ids.as_slice())?,
             people: Vec::from_slice(alloc, self.people.as_slice())?,
-            holders: self.holders.clone()?,
+            holders: Vec::from_slice(alloc, self.holders.as_slice())?,
         })
     }
 
@@ -87,9 +86,9 @@ impl Register {
     pub fn who(&self, token: &[u8]) -> Option<CandId>
         ensures { result ≡ find_holder token.now self.now.holders }
     {
-        let holders = &self.holders;
+        let holders = self.holders.as_slice();
         let token = Token::read(token)?;
-        holders.get(&token).copied()
+        find_sorted(holders, &token).copied()
     }
 
     /// All candidates, in rising order of id.

@@ -11,13 +11,13 @@ pub returns-in_err-token : goal.returns-in_err-token
 returns-in_err-token c =
     let token = c.args.token.now in
     c.from_residual.ensures
-    ∙ not_held (find_holder token c.self.inside.holders.entries) (is_token token) (c.self.invariant.sound.tokens token) (no_token (is_token token) token c.in_err-token.ensures)
+    ∙ not_held (find_holder token c.self.inside.holders.items) (is_token token) (c.self.invariant.sound.tokens token) (no_token (is_token token) token c.in_err-token.ensures)
     ∙ ap (λ (r : Ranks). find_holder token r.holders) c.self.view_is
 
 pub returns : goal.returns
 returns c =
     let token = c.args.token.now in
-    c.copied.ensures ∙ c.get.ensures.value
-    ∙ ap (λ (t : List ℕ). lookup (λ k. is_eq (slice_cmp nat_cmp t k)) c.self.inside.holders.entries) (same_token (is_token token) token c.in_ok-token.token c.in_ok-token.ensures)
-    ∙ sym (find-holder token c.self.inside.holders.entries)
+    c.copied.ensures ∙ (rw c.as_slice-holders.ensures.value at c.find_sorted.ensures)
+    ∙ ap (λ (t : List ℕ). lookup (λ k. is_eq (slice_cmp nat_cmp t k)) c.self.inside.holders.items) (same_token (is_token token) token c.in_ok-token.token c.in_ok-token.ensures)
+    ∙ sym (find-holder token c.self.inside.holders.items)
     ∙ ap (λ (r : Ranks). find_holder token r.holders) c.self.view_is
