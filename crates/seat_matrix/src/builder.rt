@@ -13,7 +13,7 @@ use crate::fields::read_seating;
 use crate::matrix::Matrix;
 use crate::seats::{Seating, Seatings};
 use office_base::limits::{MOST_MATRIX_SEATS, MOST_PROGRAMMES};
-use office_base::{Code, ListId, OWN_STEPS, OutOfMemory, ProgId, StepKind, step_number};
+use office_base::{Code, ListId, OWN_COUNT, OWN_STEPS, OutOfMemory, ProgId, StepKind, step_number};
 use office_text::{read_number, read_step};
 use section_rows::{Rows, TableBuilder};
 use std::alloc::{AllocError, Global};
@@ -175,9 +175,11 @@ impl MatrixBuilder {
         ensures { (entries : List Entry) → Keeps entries self.now
             → result ≡ seatings_in entries code }
     {
-        Seatings {
-            own: OWN_STEPS.map(|step| self.seating(code, step)),
+        let mut own = [Seating::none(); OWN_COUNT];
+        for i in 0..OWN_STEPS.len() {
+            own[i] = self.seating(code, OWN_STEPS[i]);
         }
+        Seatings { own }
     }
 
     /// What the entries give for each programme, by its number.
