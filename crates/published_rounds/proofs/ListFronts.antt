@@ -50,10 +50,7 @@ applies_by n list p (Some y) own h =
     let at = on_front n list p a.wants in
     let mine = on_front n list y.prog.0 own in
     let within : place_of (take n list) p ≤ place_of (take n list) y.prog.0 = a.within in
-    let e = front_place n list p in
-    let f = front_place n list y.prog.0 in
-    let less = mine.before in
-    record { before = at.before; on = at.on; within = omega (arith, within, e, f, less) }
+    record { before = at.before; on = at.on; within = omega (arith, within, front_place n list p, front_place n list y.prog.0) }
 
 pub by_applies : (n : ℕ) (list : List ProgId) (p : ℕ) (seat : Option Seat) → AppliesBy n list p seat → applies p (take n list) seat ≡ true
 by_applies n list p None a =
@@ -64,10 +61,7 @@ by_applies n list p None a =
 by_applies n list p (Some y) a =
     let before = a.before in
     let on = a.on in
-    let within : place_of list p ≤ place_of list y.prog.0 = a.within in
-    let e = front_place n list p in
-    let f = front_place n list y.prog.0 in
-    applies_true p (take n list) (Some y) (front_on n list p before on) (omega (arith, e, f, within, before))
+    applies_true p (take n list) (Some y) (front_on n list p before on) (omega (arith, front_place n list p, front_place n list y.prog.0, before))
 
 -- a seat is at a place of a front, or there is none
 abbrev pub IsWithin : ℕ → List ProgId → Option Seat → Type 0
@@ -89,11 +83,7 @@ ranks_by n list None (Some y) at at' le =
     absurd (let f = front_place n list y.prog.0 in let size = length-take n list in let before = at'.0 in let on = at'.1 in omega (arith, le, f, size, before, on))
 ranks_by n list (Some x) None at at' le = let on = at.1 in omega (arith, on)
 ranks_by n list (Some x) (Some y) at at' le =
-    let e = front_place n list x.prog.0 in
-    let f = front_place n list y.prog.0 in
-    let before = at.0 in
-    let before' = at'.0 in
-    omega (arith, le, e, f, before, before')
+    omega (arith, le, front_place n list x.prog.0, front_place n list y.prog.0)
 
 -- ---- the seekers with fronts of their lists
 
@@ -286,9 +276,8 @@ module _ (rule more : Rule) (MayApply : ℕ → List Person → Type 0) (well : 
         let on = on_front (upto i) c.s.list p less' in
         let before = on.before in
         let rank = rank_there seekers seats i c.s seat c.there has in
-        let short = shorter i in
         subst (λ (z : Seeker). applies p z.list seat ≡ true) (sym c.is)
-        (by_applies (m i) c.s.list p seat (record { before = omega (arith, before, short); on = on.on; within = omega (arith, before, rank) }));
+        (by_applies (m i) c.s.list p seat (record { before = omega (arith, before, shorter i); on = on.on; within = omega (arith, before, rank) }));
   }
 
   -- who has no seat so far had none, or no longer lists it
@@ -297,13 +286,12 @@ module _ (rule more : Rule) (MayApply : ℕ → List Person → Type 0) (well : 
   not_listed i s None there has none p before on = let rank = rank_there seekers seats i s None there has in omega (arith, rank, before, on)
   not_listed i s (Some y) there has none p before on = elim (cases_lt (place_of s.list y.prog.0) (k i)) [
     | inl listed ↦ absurd (
-        let rank = rank_there seekers seats i s (Some y) there has in
         let own = within_own (m i) s.list (Some y) (fair.allocation.own i (with_list s (take (m i) s.list)) (Some y) (fronted_at m seekers i s there) has) in
         let read = place_read s.list y.prog.0 own.1 in
         let below = subst (λ n. n < count) read.2 (market.below i (place_of s.list y.prog.0) s read.0 there read.1) in
         still_seated rule more MayApply count y.prog.0 i (fronted m seekers) (fronted upto seekers) seats small.0 (with_list s (take (m i) s.list)) (with_list s (take (upto i) s.list)) y.step
         (front_market more MayApply well count seekers market m) well grows fair small.1.fair narrows below (fronted_at m seekers i s there) (fronted_at upto seekers i s there) has
-        (front_on (upto i) s.list y.prog.0 (omega (arith, listed, rank)) own.1) none)
+        (front_on (upto i) s.list y.prog.0 (omega (arith, listed, rank_there seekers seats i s (Some y) there has)) own.1) none)
     | inr gone ↦ let rank = rank_there seekers seats i s (Some y) there has in omega (arith, gone, rank, before)
   ]
 
@@ -320,9 +308,7 @@ module _ (rule more : Rule) (MayApply : ℕ → List Person → Type 0) (well : 
       applied i p s None there has a = let seat = seat_there i s there in not_listed i s seat.0 there seat.1 has p a.before a.on
       applied i p s (Some w) there has a =
           let own = front_within more MayApply well count seekers market upto small.0 i s (Some w) small.1.fair there has in
-          let before = own.0 in
-          let within : place_of s.list p ≤ place_of s.list w.prog.0 = a.within in
-          omega (arith, before, within)
+          omega arith
 
   -- so far the seats are no later
   no_later : (i : ℕ) (s : Seeker) (seat z : Option Seat) → slice_get seekers i ≡ Some s → slice_get seats i ≡ Some seat → slice_get small.0 i ≡ Some z → IsWithin (k i) s.list seat
@@ -333,19 +319,15 @@ module _ (rule more : Rule) (MayApply : ℕ → List Person → Type 0) (well : 
       rank_within_by s None at = omega arith
       rank_within_by s (Some w) at = let on = at.1 in omega (arith, on)
   no_later i s (Some y) None there has at listed = absurd (
-      let rank = rank_there seekers seats i s (Some y) there has in
       let own = within_own (m i) s.list (Some y) (fair.allocation.own i (with_list s (take (m i) s.list)) (Some y) (fronted_at m seekers i s there) has) in
       let read = place_read s.list y.prog.0 own.1 in
       let below = subst (λ n. n < count) read.2 (market.below i (place_of s.list y.prog.0) s read.0 there read.1) in
-      let before = listed.0 in
       still_seated rule more MayApply count y.prog.0 i (fronted m seekers) (fronted upto seekers) seats small.0 (with_list s (take (m i) s.list)) (with_list s (take (upto i) s.list)) y.step
       (front_market more MayApply well count seekers market m) well grows fair small.1.fair narrows below (fronted_at m seekers i s there) (fronted_at upto seekers i s there) has
-      (front_on (upto i) s.list y.prog.0 (omega (arith, before, rank)) own.1) at)
+      (front_on (upto i) s.list y.prog.0 (omega (arith, rank_there seekers seats i s (Some y) there has)) own.1) at)
   no_later i s (Some y) (Some w) there has at listed =
       let own = front_within more MayApply well count seekers market upto small.0 i s (Some w) small.1.fair there at in
-      let rank = rank_there seekers seats i s (Some y) there has in
-      let before = own.0 in
-      omega (arith, before, rank)
+      omega (arith, rank_there seekers seats i s (Some y) there has)
 
   -- nobody who still lists their seat has a worse one by the best seats
   pub still_listed : (others : List (Option Seat)) (i : ℕ) (s : Seeker) (seat other : Option Seat) → IsBest more count (fronted k seekers) others → slice_get seekers i ≡ Some s
@@ -356,9 +338,7 @@ module _ (rule more : Rule) (MayApply : ℕ → List Person → Type 0) (well : 
       let one = best.best small.0 small_fair i (with_list s (take (k i) s.list)) other z.0 t has' z.1 in
       let first = front_within more MayApply well count seekers market k others i s other best.fair there has' in
       let second = front_within more MayApply well count seekers market k small.0 i s z.0 small_fair there z.1 in
-      let by_list = ranks_by (k i) s.list other z.0 first second one in
-      let rest = no_later i s seat z.0 there has z.1 listed in
-      omega (arith, by_list, rest)
+      omega (arith, ranks_by (k i) s.list other z.0 first second one, no_later i s seat z.0 there has z.1 listed)
 
 -- Where programmes admit whom they admitted, nobody has a worse seat by the best seats than by any fair ones before, all lists as they are.
 pub more_is_no_worse : (rule more : Rule) (MayApply : ℕ → List Person → Type 0) → ChoosesWell more MayApply → Grows rule more MayApply → (count i : ℕ) (seekers : List Seeker)

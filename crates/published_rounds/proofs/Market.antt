@@ -187,9 +187,7 @@ module _ (well : ProgrammesChooseWell) (exists : ProgrammeChoiceExists) (one : O
         (among_again (in_merit (list_in table p) held) held admitted by_merit.2 (are_among held admitted admits_all))) in
         let many = length-sublist admitted (in_merit (list_in table p) held) (ranked_part (list_in table p) admitted (in_merit (list_in table p) held) admitted_order by_merit.0
         (among_again admitted held (in_merit (list_in table p) held) (are_among admitted held admits_only) by_merit.1)) in
-        let size = by_merit.3 in
-        let count = held_count in
-        omega (arith, few, many, size, count)
+        omega (arith, few, many, held_count)
 
   -- the choice of a programme admits in all as many as there are seats of it
   pub in_all : (p : ℕ) → p < count → (admissions : Admissions) × ChoosesFrom version (seats_in table p) (all p) admissions × (admitted_in_all admissions ≡ count_by (is_of p) seats)
@@ -203,10 +201,8 @@ module _ (well : ProgrammesChooseWell) (exists : ProgrammeChoiceExists) (one : O
       record {
         own = λ step own. (let a = given_count p below step in let b = own_seats version table p (all p) c.admissions step c.choice own in omega (arith, a, b));
         dereserved =
-            let a = given_count p below Dereserved in
-            let b = last_seats version table p (all p) c.admissions c.choice in
             let l = left_falls version (λ step. (seating_in table p step).seats) (λ step. seats_under p step seats) (λ step. length (c.admissions step)) (λ step. let g = given_count p below step in omega (arith, g)) in
-            omega (arith, a, b, l);
+            omega (arith, given_count p below Dereserved, last_seats version table p (all p) c.admissions c.choice, l);
       }
 
   -- a step with a seat left admits fewer than it fills
@@ -214,9 +210,8 @@ module _ (well : ProgrammesChooseWell) (exists : ProgrammeChoiceExists) (one : O
       → length (admitted_by (chosen p below).admissions step) < seats_filled version (seats_in table p) (chosen p below).admissions step
   admits_fewer p below Dereserved left =
       let c = chosen p below in
-      let a = given_count p below Dereserved in
       let l = left_falls version (λ step. (seating_in table p step).seats) (λ step. length (c.admissions step)) (λ step. seats_under p step seats) (λ step. let g = given_count p below step in omega (arith, g)) in
-      omega (arith, a, left, l)
+      omega (arith, given_count p below Dereserved, left, l)
   admits_fewer p below kind left = let a = given_count p below kind in omega (arith, a, left)
 
   pub not_wasted : EmptySeatsRefuseNobody → (p i : ℕ) (step : StepKind) (s : Seeker) (seat : Option Seat) → HasSeatLeft version table p seats step → slice_get seekers i ≡ Some s
@@ -295,15 +290,13 @@ module _ (well : ProgrammesChooseWell) (exists : ProgrammeChoiceExists) (one : O
             wanted = lt-ltb _ _ own;
             is_open = open_to_holder stands prog i s found.0 there mine;
             none_before = λ other before is_open.
-                let rank = open_gives passes other i s (Some (seat_at prog found.0)) there mine (omega (arith, before, own)) is_open in
-                omega (arith, rank, before);
+                omega (arith, open_gives passes other i s (Some (seat_at prog found.0)) there mine (omega (arith, before, own)) is_open, before);
           }
 
       none_open : seat ≡ None → (prog : ℕ) → wants prog s.list ≡ true → IsOpenTo table seekers seats prog s.person → ⊥
       none_open none prog wanted is_open =
           let less = ltb-true _ _ wanted in
-          let rank = open_gives passes prog i s None there (has ∙ ap Some none) less is_open in
-          omega (arith, rank, less)
+          omega (arith, open_gives passes prog i s None there (has ∙ ap Some none) less is_open, less)
 
       has_seat : (prog : ℕ) (x : Option Seat) → slice_get seats i ≡ Some x → IsFirstOpen table seekers seats s prog → is_of prog x ≡ true
       has_seat prog None at first =

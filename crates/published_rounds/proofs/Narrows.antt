@@ -202,16 +202,14 @@ module _ (facts : SeasonFacts) (script : List Request) (papers : Papers) where
   step_on j less =
       let step = stepped j less in
       let grows = never_back facts papers (before facts script papers j) (decided facts (before facts script papers j) step.0) in
-      let same = ap (λ (s : State). s.now) step.2 in
-      omega (arith, grows, same)
+      omega (arith, grows, ap (λ (s : State). s.now) step.2)
 
   later_on : (i n j : ℕ) → j ≡ n + i → j ≤ length script → (before facts script papers i).now ≤ (before facts script papers j).now
   later_on i zero j is within = let same = ap (λ (k : ℕ). (before facts script papers k).now) (let e : j ≡ i = omega (arith, is) in e) in omega (arith, same)
   later_on i (suc n) j is within =
       let same = ap (λ (k : ℕ). (before facts script papers k).now) (let e : j ≡ suc (n + i) = omega (arith, is) in e) in
       let rest = later_on i n (n + i) refl (omega (arith, is, within)) in
-      let step = step_on (n + i) (omega (arith, is, within)) in
-      omega (arith, rest, step, same)
+      omega (arith, rest, step_on (n + i) (omega (arith, is, within)), same)
 
   -- up to the next cut
   until : ((k : ℕ) → k ≤ length script → IsInOrder facts (before facts script papers k)) → (i n j : ℕ) (request : Request) → slice_get script i ≡ Some request
@@ -231,8 +229,7 @@ module _ (facts : SeasonFacts) (script : List Request) (papers : Papers) where
       let at : j ≡ suc (n + suc i) = omega (arith, is) in
       let last = ap (λ (k : ℕ). (before facts script papers k).now) at in
       let low = later_on (suc i) n (n + suc i) refl (omega (arith, is, within)) in
-      let high = step_on (n + suc i) (omega (arith, is, within)) in
-      let now : here.now ≡ old.now + 1 = omega (arith, made, low, high, last, same) in
+      let now : here.now ≡ old.now + 1 = omega (arith, made, low, step_on (n + suc i) (omega (arith, is, within)), last, same) in
       let rest = until order i n (n + suc i) request there publishes early refl (omega (arith, is, within)) now in
       let step = stepped (n + suc i) (omega (arith, is, within)) in
       let stays : (taken facts papers here (decided facts here step.0)).now ≡ here.now = (let e = ap (λ (s : State). s.now) step.2 in omega (arith, e, last, same, now)) in
@@ -244,8 +241,7 @@ module _ (facts : SeasonFacts) (script : List Request) (papers : Papers) where
   in_turn i j within next = elim (cases_lt i j) [
     | inl less ↦ less
     | inr few ↦ absurd (
-        let on = later_on j (i - j) i (omega (arith, few)) (omega (arith, within)) in
-        omega (arith, on, next))
+        omega (arith, later_on j (i - j) i (omega (arith, few)) (omega (arith, within)), next))
   ]
 
 -- ---- two cuts that follow each other

@@ -77,10 +77,7 @@ module _ (one two : Protections) (t : ℕ) (more : protected two t ≡ suc (prot
         let rest = fewer two people found.0 pairs found.1 found.2 p in
         let counts = placed_on_leaves t found.0 pairs found.1 found.2 in
         let on = stands_same t found.0 found.3 in
-        let room = p.within t in
-        let most = h.most found.1 (narrow people found.1 rest (omega (arith, counts, on, room, more))) in
-        let size = length_leaves found.0 pairs found.1 found.2 in
-        omega (arith, most, size)
+        omega (arith, h.most found.1 (narrow people found.1 rest (omega (arith, counts, on, p.within t, more))), length_leaves found.0 pairs found.1 found.2)
     | inr none ↦ let most = h.most pairs (narrow people pairs p (omega (arith, none))) in omega (arith, most)
   ]
 
@@ -101,10 +98,7 @@ module _ (one two : Protections) (t : ℕ) (more : protected two t ≡ suc (prot
         once = (nowhere one d people h.reached.0 apart h.reached.1, h.reached.1.once);
         within = λ s. elim (on_or_off t s) [
           | inl on ↦
-              let was = h.reached.1.within t in
-              let here = subst (λ z. placed_on z h.reached.0 < protected two z) on.0 (omega (arith, was, more)) in
-              let counted = on.1 in
-              omega (arith, here, counted)
+              omega (arith, subst (λ z. placed_on z h.reached.0 < protected two z) on.0 (omega (arith, h.reached.1.within t, more)))
           | inr off ↦ let was = h.reached.1.within s in let few = no_fewer s in omega (arith, was, off, few)
         ];
       }
@@ -121,11 +115,8 @@ module _ (one two : Protections) (t : ℕ) (more : protected two t ≡ suc (prot
             let away : AllByRecursion (λ (x : Pair). d.id ≢ x.cand) found.1 =
             subst (λ cand. AllByRecursion (λ (x : Pair). cand ≢ x.cand) found.1) found.3 (pairwise_leaves Apart apart_back found.0 pairs found.1 found.2 p.once).0 in
             let counts = placed_on_leaves t found.0 pairs found.1 found.2 in
-            let counted = stands_same t found.0 on in
-            let room = p.within t in
-            let few = h.most found.1 (narrow people found.1 (left_out two d people found.1 away rest) (omega (arith, counts, counted, room, more))) in
-            let size = length_leaves found.0 pairs found.1 found.2 in
-            omega (arith, few, size)
+            let few = h.most found.1 (narrow people found.1 (left_out two d people found.1 away rest) (omega (arith, counts, stands_same t found.0 on, p.within t, more))) in
+            omega (arith, few, length_leaves found.0 pairs found.1 found.2)
         | inr none ↦ little_more people n pairs h (left_out two d people pairs none p)
       ]
 
@@ -143,8 +134,7 @@ module _ (one two : Protections) (t : ℕ) (more : protected two t ≡ suc (prot
       let k = honoured-exists two (person ∷ before) distinct in
       let less = diminishing two person before (d ∷ before) m (suc n) k.0 (suc (suc n)) (((λ e. apart.0 (sym e)), distinct.0), (apart.1, distinct.1))
       (among_longer d before before (among_itself before)) h' first k.1 turned in
-      let step = one_step two person before (person ∷ before) m k.0 (among_itself (person ∷ before)) h' k.1 in
-      subst (λ z. IsHonoured two (person ∷ before) z) (omega (arith, less, step)) k.1
+      subst (λ z. IsHonoured two (person ∷ before) z) (omega (arith, less, one_step two person before (person ∷ before) m k.0 (among_itself (person ∷ before)) h' k.1)) k.1
 
   -- a holder of the trait raises the number where nobody more was placed
   holder_raises : (person : Person) (before : List Person) (n : ℕ) → IsTrue (has_trait person.traits t) → AreDistinct (person ∷ before) → IsHonoured one before n → IsHonoured two before n
@@ -156,18 +146,13 @@ module _ (one two : Protections) (t : ℕ) (more : protected two t ≡ suc (prot
         once = (nowhere one person before pairs distinct.0 h.reached.1, h.reached.1.once);
         within = λ s. elim (on_or_off t s) [
           | inl on ↦
-              let was = h.reached.1.within t in
-              let here = subst (λ z. placed_on z pairs < protected two z) on.0 (omega (arith, was, more)) in
-              let counted = on.1 in
-              omega (arith, here, counted)
+              omega (arith, subst (λ z. placed_on z pairs < protected two z) on.0 (omega (arith, h.reached.1.within t, more)))
           | inr off ↦ let was = h.reached.1.within s in let few = no_fewer s in omega (arith, was, off, few)
         ];
       } in
       let k = honoured-exists two (person ∷ before) distinct in
       let step = one_step two person before (person ∷ before) n k.0 (among_itself (person ∷ before)) h' k.1 in
-      let reached = k.1.most (record { cand = person.id; slot = t } ∷ pairs) placed in
-      let size = h.reached.2 in
-      subst (λ z. IsHonoured two (person ∷ before) z) (omega (arith, step, reached, size)) k.1
+      subst (λ z. IsHonoured two (person ∷ before) z) (omega (arith, step, k.1.most (record { cand = person.id; slot = t } ∷ pairs) placed)) k.1
 
 -- ---- marks down the merit order
 
@@ -234,10 +219,7 @@ module _ (one two : Protections) (t : ℕ) (more : protected two t ≡ suc (prot
   close : (before some others : List Person) → AreMarkedSoFar one before some → AreMarkedSoFar two before others → (length some ≤ length others) × (length others ≤ suc (length some))
   close before some others first second =
       let up = second.was.most first.was.reached.0 (wide one two t more same before first.was.reached.0 first.was.reached.1) in
-      let size = first.was.reached.2 in
-      let little = little_more one two t more same before (length some) second.was.reached.0 first.was second.was.reached.1 in
-      let size' = second.was.reached.2 in
-      (omega (arith, up, size), omega (arith, little, size'))
+      (omega (arith, up), omega (arith, little_more one two t more same before (length some) second.was.reached.0 first.was second.was.reached.1))
 
   -- who was marked still is
   still_marked : (first : Person) (before some others : List Person) → AreDistinct (first ∷ before) → AreMarkedSoFar one before some → AreMarkedSoFar two before others → IsRaise one some first true
@@ -246,8 +228,7 @@ module _ (one two : Protections) (t : ℕ) (more : protected two t ≡ suc (prot
       let now = mark_next one first before some a up in
       let raised = raises_still one two t more same first before (length some) (length others) distinct a.was now.was b.was in
       let not = pass_next two first before others distinct b stays in
-      let e = honoured-one two (first ∷ before) (suc (length others)) (length others) raised not.was in
-      absurd (omega (arith, e))
+      absurd (omega (arith, honoured-one two (first ∷ before) (suc (length others)) (length others) raised not.was))
 
   -- a holder who is not marked now was not before, and there one more is marked
   not_marked : (before some others : List Person) → AreDistinct (person ∷ before) → AreMarkedSoFar one before some → AreMarkedSoFar two before others → IsRaise two others person false
@@ -256,8 +237,7 @@ module _ (one two : Protections) (t : ℕ) (more : protected two t ≡ suc (prot
     | inl equal ↦ absurd (
         let raised = holder_raises one two t more same person before (length some) holds distinct a.was (subst (λ n. IsHonoured two before n) equal b.was) in
         let not = pass_next two person before others distinct b stays in
-        let e = honoured-one two (person ∷ before) (suc (length some)) (length others) raised not.was in
-        omega (arith, e, equal))
+        omega (arith, honoured-one two (person ∷ before) (suc (length some)) (length others) raised not.was, equal))
     | inr apart ↦ let near = close before some others a b in let low = near.0 in let high = near.1 in omega (arith, apart, low, high)
   ]
 
@@ -277,9 +257,8 @@ module _ (one two : Protections) (t : ℕ) (more : protected two t ≡ suc (prot
   stays_chosen (first ∷ people) before some others (false ∷ marks) (true ∷ now) zero left new a b told told' room here =
       let distinct = first_new first people before new in
       let near = close (first ∷ before) some (first ∷ others) (pass_next one first before some distinct a told.0) (mark_next two first before others b told'.0) in
-      let high = near.1 in
       inr (stays_chosen people (first ∷ before) some (first ∷ others) marks now zero left (next_new first people before new) (pass_next one first before some distinct a told.0)
-      (mark_next two first before others b told'.0) told.1 told'.1 (omega (arith, high)) here)
+      (mark_next two first before others b told'.0) told.1 told'.1 (omega arith) here)
   stays_chosen (first ∷ people) before some others (false ∷ marks) (true ∷ now) (suc free) left new a b told told' room here = elim here [
     | inl mine ↦ inl mine
     | inr later ↦
@@ -294,9 +273,8 @@ module _ (one two : Protections) (t : ℕ) (more : protected two t ≡ suc (prot
   stays_chosen (first ∷ people) before some others (false ∷ marks) (false ∷ now) zero (suc left) new a b told told' room here =
       let distinct = first_new first people before new in
       let near = close before some others a b in
-      let high = near.1 in
       inr (stays_chosen people (first ∷ before) some others marks now zero left (next_new first people before new) (pass_next one first before some distinct a told.0)
-      (pass_next two first before others distinct b told'.0) told.1 told'.1 (omega (arith, high)) here)
+      (pass_next two first before others distinct b told'.0) told.1 told'.1 (omega arith) here)
   stays_chosen (first ∷ people) before some others (false ∷ marks) (false ∷ now) (suc free) zero new a b told told' room here =
       let distinct = first_new first people before new in
       elim here [
@@ -306,9 +284,8 @@ module _ (one two : Protections) (t : ℕ) (more : protected two t ≡ suc (prot
             omega (arith, up, room))
         | inr later ↦
             let near = close before some others a b in
-            let low = near.0 in
             stays_chosen people (first ∷ before) some others marks now free zero (next_new first people before new) (pass_next one first before some distinct a told.0)
-            (pass_next two first before others distinct b told'.0) told.1 told'.1 (omega (arith, room, low)) later
+            (pass_next two first before others distinct b told'.0) told.1 told'.1 (omega (arith, room)) later
       ]
   stays_chosen (first ∷ people) before some others (false ∷ marks) (false ∷ now) (suc free) (suc left) new a b told told' room here = elim here [
     | inl mine ↦ inl mine
@@ -336,8 +313,6 @@ one_more_keeps_its_holders one_choice marks_by_hand by_hand step more chosen oth
     let second = all_marked more.protections step.people [] [] now.0 new (nobody_marked more.protections) told' in
     let little = little_more step.protections more.protections t has.one_more has.others (onto step.people []) (marked marks.0) second.reached.0
     (subst (λ n. IsHonoured step.protections (onto step.people []) n) (omega arith) first) second.reached.1 in
-    let size = second.reached.2 in
-    let seats = has.seats in
     let there = stays_chosen step.protections more.protections t has.one_more has.others person holds step.people [] [] [] marks.0 now.0 (step.seats - marked marks.0) (more.seats - marked now.0) new
-    (nobody_marked step.protections) (nobody_marked more.protections) marks.1 told' (omega (arith, little, size, seats)) (subst (λ l. IsAmong person l) mine here) in
+    (nobody_marked step.protections) (nobody_marked more.protections) marks.1 told' (omega (arith, little)) (subst (λ l. IsAmong person l) mine here) in
     subst (λ l. IsAmong person l) his (subst (λ (l : List Person). IsAmong person (kept l (filled_up now.0 (more.seats - marked now.0)))) (sym has.people) there)

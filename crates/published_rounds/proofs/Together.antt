@@ -58,9 +58,7 @@ passing_less : (f g : ℕ → Bool) (n r : ℕ) → ((i : ℕ) → f i ≡ true 
 passing_less f g zero r each less e h = absurd (omega (arith, less))
 passing_less f g (suc n) r each less e h = elim (cases_lt r n) [
   | inl before ↦
-      let rest = passing_less f g n r each before e h in
-      let here = one_fewer (f n) (g n) 0 0 (each n) (omega arith) in
-      omega (arith, rest, here)
+      omega (arith, passing_less f g n r each before e h, one_fewer (f n) (g n) 0 0 (each n) (omega arith))
   | inr last ↦
       let same : r ≡ n = omega (arith, less, last) in
       one_gone (f n) (g n) _ _ (subst (λ k. f k ≡ false) same e) (subst (λ k. g k ≡ true) same h) (passing_le f g n each)
@@ -153,11 +151,9 @@ module _ (rule : Rule) (MayApply : ℕ → List Person → Type 0) (well : Choos
   no_worse : (back : ℕ → Bool) (i : ℕ) (s : Seeker) (y : Option Seat) → cuts back i ≡ false → slice_get seekers i ≡ Some s → slice_get (seated back).0 i ≡ Some y → rank_of s.list y ≤ rank i
   no_worse back i s y not_cut there has =
       let seat = seat_there i s there in
-      let e = kept_whole back i not_cut in
-      let same = rank_there seekers seats i s seat.0 there seat.1 in
       let le = still_listed rule rule MayApply well (λ p people x may h. h) count seekers market (kept back) whole (kept_short back) seats seats_whole (seated back).0 i s seat.0 y (seated back).1 there seat.1 has
-      (wider (whole i) (kept back i) s seat.0 (omega (arith, e)) (within_whole i s seat.0 there seat.1)) in
-      omega (arith, le, same)
+      (wider (whole i) (kept back i) s seat.0 (omega (arith, kept_whole back i not_cut)) (within_whole i s seat.0 there seat.1)) in
+      omega (arith, le, rank_there seekers seats i s seat.0 there seat.1)
 
   -- ---- if all who cut have a seat, it is better than the best
 
@@ -177,9 +173,7 @@ module _ (rule : Rule) (MayApply : ℕ → List Person → Type 0) (well : Choos
     ]
     stays i p s (Some y) there has a =
         let own = front_within rule MayApply well count seekers market (kept back) (seated back).0 i s (Some y) (seated back).1.fair there has in
-        let before = own.0 in
-        let within : place_of s.list p ≤ place_of s.list y.prog.0 = a.within in
-        omega (arith, before, within)
+        omega arith
 
     seated_fair : IsFair rule count seekers (seated back).0
     seated_fair = subst (λ l. IsFair rule count l (seated back).0) all_whole
@@ -193,11 +187,8 @@ module _ (rule : Rule) (MayApply : ℕ → List Person → Type 0) (well : Choos
     too_good j s (Some y) there cut has =
         let seat = seat_there j s there in
         let own = front_within rule MayApply well count seekers market (kept back) (seated back).0 j s (Some y) (seated back).1.fair there has in
-        let before = own.0 in
-        let e = kept_cut back j cut in
-        let same = rank_there seekers seats j s seat.0 there seat.1 in
         let le : rank_of s.list seat.0 ≤ place_of s.list y.prog.0 = best.best (seated back).0 seated_fair j s seat.0 (Some y) there seat.1 has in
-        omega (arith, before, e, same, le)
+        omega (arith, kept_cut back j cut, rank_there seekers seats j s seat.0 there seat.1, le)
 
   -- ---- one who has none takes the list back
 
@@ -271,22 +262,18 @@ module _ (rule : Rule) (MayApply : ℕ → List Person → Type 0) (well : Choos
                     let at' : slice_get (seated more).0 r ≡ Some y = subst (λ n. slice_get (seated more).0 n ≡ Some y) same has' in
                     let one : s ≡ t = cc in
                     let two : Some w ≡ y = cc in
-                    let e = kept_cut back r cut in
                     let on = (front_within rule MayApply well count seekers market (kept more) (seated more).0 r s (Some w) (seated more).1.fair there has).1 in
-                    let here : IsWithin (kept back r) s.list (Some w) = (omega (arith, e, before), on) in
+                    let here : IsWithin (kept back r) s.list (Some w) = (omega (arith, kept_cut back r cut, before), on) in
                     subst (λ n. IsWithin (kept back n) t.list y) (sym same) (subst (λ o. IsWithin (kept back r) t.list o) two (subst (λ (z : Seeker). IsWithin (kept back r) z.list (Some w)) one here))
                 | inr apart ↦
-                    let e = kept_cut back i is_cut in
-                    let f = kept_cut more i (cut_after i is_cut apart) in
-                    wider (kept more i) (kept back i) t y (omega (arith, e, f)) mine
+                    wider (kept more i) (kept back i) t y (omega (arith, kept_cut back i is_cut, kept_cut more i (cut_after i is_cut apart))) mine
               ]
             ]
 
     exactly : (y : Option Seat) → slice_get (seated more).0 r ≡ Some y → rank_of s.list y ≡ rank r
     exactly y has =
-        let le = no_worse more r s y (not_cut_of more r more_self) there has in
         elim (cases_lt (rank_of s.list y) (rank r)) [
-          | inr past ↦ omega (arith, le, past)
+          | inr past ↦ omega (arith, no_worse more r s y (not_cut_of more r more_self) there has, past)
           | inl before ↦ absurd (earlier y has before)
         ]
       where
@@ -307,14 +294,10 @@ module _ (rule : Rule) (MayApply : ℕ → List Person → Type 0) (well : Choos
           subst (λ n. rank_of t.list y ≡ rank n) (sym same) (subst (λ (z : Seeker). rank_of z.list y ≡ rank r) one (exactly y at'))
       | inl was ↦
           let before = value_at seekers (seated back).0 i t (full_seated back) there' in
-          let e = holds i t before.0 was there' before.1 in
           let mine = front_within rule MayApply well count seekers market (kept more) (seated more).0 i t y (seated more).1.fair there' has in
-          let f = kept_whole back i (not_cut_of back i was) in
-          let le = kept_short more i in
           let first = still_listed rule rule MayApply well (λ p people x may h. h) count seekers market (kept back) (kept more) longer (seated more).0 (seated more).1.fair (seated back).0 i t y before.0 (seated back).1 there' has before.1
-          (wider (kept more i) (kept back i) t y (omega (arith, f, le)) mine) in
-          let second = no_worse more i t y (not_cut_of more i is_back) there' has in
-          omega (arith, e, first, second)
+          (wider (kept more i) (kept back i) t y (omega (arith, kept_whole back i (not_cut_of back i was), kept_short more i)) mine) in
+          omega (arith, holds i t before.0 was there' before.1, first, no_worse more i t y (not_cut_of more i is_back) there' has)
     ]
 
     -- ---- the last one
@@ -338,11 +321,7 @@ module _ (rule : Rule) (MayApply : ℕ → List Person → Type 0) (well : Choos
       moving : (i : ℕ) (t : Seeker) (y other : Option Seat) → gains i ≡ true → slice_get seekers i ≡ Some t → slice_get (seated back).0 i ≡ Some y → slice_get others i ≡ Some other
           → (z : Seat) × (other ≡ Some z) × AppliesBy (kept back i) t.list z.prog.0 y
       moving i t y None e there' has has' = absurd (
-          let less = ltb-true _ _ e in
-          let same = rank_there seekers others i t None there' has' in
-          let le = short i in
-          let size = size_there seekers i t there' in
-          omega (arith, less, same, le, size))
+          omega (arith, ltb-true _ _ e, rank_there seekers others i t None there' has', short i, size_there seekers i t there'))
       moving i t y (Some z) e there' has has' =
           let less = ltb-true _ _ e in
           let same = rank_there seekers others i t (Some z) there' has' in
@@ -378,8 +357,7 @@ module _ (rule : Rule) (MayApply : ℕ → List Person → Type 0) (well : Choos
           ] in
           let list = together.others i t u out there' at in
           let worse = no_worse back i t y (by (gains i) (back i) e) there' has in
-          let within = a.within in
-          subst (λ l. applies p l other ≡ true) (sym list) (applies_true p t.list other a.on (omega (arith, within, worse, past, same)))
+          subst (λ l. applies p l other ≡ true) (sym list) (applies_true p t.list other a.on (omega (arith, worse, past, same)))
         where
           by : (b c : Bool) → b ≡ false → (b && not c) ≡ false
           by true c e = absurd (cc)
@@ -412,8 +390,7 @@ module _ (rule : Rule) (MayApply : ℕ → List Person → Type 0) (well : Choos
 
   none_left : (fuel : ℕ) (back : ℕ → Bool) (j : ℕ) → passing (cuts back) many ≤ fuel → Holds back → j < many → cuts back j ≡ true → ⊥
   none_left zero back j few holds less cut =
-      let some = passing_less (λ i. false) (cuts back) many j (λ i e. absurd (cc)) less refl cut in
-      omega (arith, few, some)
+      omega (arith, few, passing_less (λ i. false) (cuts back) many j (λ i e. absurd (cc)) less refl cut)
   none_left (suc fuel) back j few holds less cut = elim (search_places (λ i. cuts back i && is_none (seat_of_place (seated back).0 i)) many) [
     | inr all ↦
         let s = there_is seekers j less in
@@ -444,8 +421,7 @@ module _ (rule : Rule) (MayApply : ℕ → List Person → Type 0) (well : Choos
       let other = value_at seekers others i s (fair'.allocation.full ∙ together.same) there in
       let less = gain i s seat.0 other.0 within there seat.1 other.1 in
       let e = rank_there seekers seats i s seat.0 there seat.1 in
-      let f = rank_there seekers others i s other.0 there other.1 in
-      let gaining : gains i ≡ true = lt-ltb (rank_at seekers others i) (rank i) (omega (arith, less, e, f)) in
+      let gaining : gains i ≡ true = lt-ltb (rank_at seekers others i) (rank i) (omega (arith, less, e, rank_there seekers others i s other.0 there other.1)) in
       none_left (passing (cuts (λ j. false)) many) (λ j. false) i (omega arith) (λ j t y is_back. absurd (cc)) (slice_get_within seekers i s there)
       (and_from (gains i) true gaining refl)
 
