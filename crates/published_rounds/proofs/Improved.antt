@@ -2,7 +2,7 @@
 use Rattle.std.proofs.Common.{◌≡◌, ◌≢◌, ◌<◌, ◌≤◌, ◌⊎◌, inl, inr, ℕ, suc, Bool, true, false, List, [], ◌∷◌, Option, Some, None, length, arith, refl, sym, ap, ◌∙◌, subst, if◌then◌else◌}
 use Rattle.std.specs.Prelude.{slice_get, slice_set}
 use Rattle.std.proofs.Math.ListN.{length-set}
-use Rattle.std.proofs.lemmas.Bool.{cases_Bool, cases_eq, eq-eqb}
+use Rattle.std.proofs.lemmas.Bool.{cases_eq, eq-eqb, false_from_ne_true}
 use Rattle.office_base.specs.Lists.{IsAmong, IsSublist}
 use Rattle.office_base.specs.declared.asks.Seat.{Seat}
 use Rattle.office_base.specs.declared.person.Person.{Person}
@@ -26,32 +26,26 @@ use Rattle.programme_laws.specs.Laws.{AreTheSameBut}
 
 -- nobody applies by an empty list
 no_list : (q : ℕ) (seat : Option Seat) → applies q [] seat ≡ false
-no_list q seat = elim (cases_Bool (applies q [] seat)) [
-  | inl is_yes ↦ absurd (let a = applies_means q [] seat is_yes in let less = a.wants in omega (arith, less))
-  | inr is_no ↦ is_no
-]
+no_list q seat = false_from_ne_true (applies q [] seat) (λ is_yes. let a = applies_means q [] seat is_yes in omega (arith, a.wants))
 
 -- ---- one seeker set
 
 at_set : (seekers : List Seeker) (i j : ℕ) (old new y : Seeker) → slice_get seekers i ≡ Some old → slice_get (slice_set seekers i new) j ≡ Some y
     → ((j ≡ i) × (y ≡ new)) ⊎ ((j ≢ i) × (slice_get seekers j ≡ Some y))
 at_set seekers i j old new y there at = elim (cases_eq j i) [
-  | inl same ↦
-      let here = get_set_same seekers i new old there in
-      let at_i : slice_get (slice_set seekers i new) i ≡ Some y = subst (λ k. slice_get (slice_set seekers i new) k ≡ Some y) same at in
-      inl (same, (let e : new ≡ y = cc in sym e))
+  | inl same ↦ let here = get_set_same seekers i new old there in inl (same, (cc))
   | inr apart ↦ inr (apart, sym (get_set_other seekers i j new apart) ∙ at)
 ]
+
+-- where both lists have the same seeker at another place, so have they still
+at_another : (ss ts : List Seeker) (i j : ℕ) (a b u : Seeker) → slice_get ts j ≡ slice_get ss j → j ≢ i → slice_get (slice_set ss i a) j ≡ Some u → slice_get (slice_set ts i b) j ≡ Some u
+at_another ss ts i j a b u same apart at = get_set_other ts i j b apart ∙ (same ∙ (sym (get_set_other ss i j a apart) ∙ at))
 
 set_tells : (i : ℕ) (seekers : List Seeker) (s : Seeker) (list : List ProgId) → slice_get seekers i ≡ Some s → TellsAnother i seekers (slice_set seekers i (with_list s list))
 set_tells i seekers s list there = record {
   same = length-set seekers i (with_list s list);
   others = λ j apart. get_set_other seekers i j (with_list s list) apart;
-  person = λ a b at at'.
-      let here = get_set_same seekers i (with_list s list) s there in
-      let first : a ≡ s = cc in
-      let second : with_list s list ≡ b = cc in
-      ap (λ (z : Seeker). z.person) first ∙ ap (λ (z : Seeker). z.person) second;
+  person = λ a b at at'. let here = get_set_same seekers i (with_list s list) s there in cc;
 }
 
 -- the seekers are a market where one of them seeks one programme alone
@@ -61,11 +55,8 @@ alone_market rule MayApply well count i seekers s q market there wanted =
     narrows_market rule MayApply well count seekers (slice_set seekers i (with_list s (q ∷ []))) market (record {
       same = length-set seekers i (with_list s (q ∷ []));
       persons = λ j a b at at'. elim (at_set seekers i j s (with_list s (q ∷ [])) b there at') [
-        | inl here ↦
-            let at_i : slice_get seekers i ≡ Some a = subst (λ k. slice_get seekers k ≡ Some a) here.0 at in
-            let one : a ≡ s = cc in
-            ap (λ (z : Seeker). z.person) one ∙ ap (λ (z : Seeker). z.person) (sym here.1)
-        | inr other ↦ let e = other.1 in let one : a ≡ b = cc in ap (λ (z : Seeker). z.person) one
+        | inl here ↦ cc
+        | inr other ↦ cc
       ];
       distinct = λ j k b r at at'. elim (at_set seekers i j s (with_list s (q ∷ [])) b there at) [
         | inl here ↦
@@ -74,11 +65,10 @@ alone_market rule MayApply well count i seekers s q market there wanted =
       ];
       narrowed = λ p j a b at at' less. elim (at_set seekers i j s (with_list s (q ∷ [])) b there at') [
         | inl here ↦
-            let at_i : slice_get seekers i ≡ Some a = subst (λ k. slice_get seekers k ≡ Some a) here.0 at in
-            let one : s ≡ a = cc in
             let less' : place_of (q ∷ []) p < 1 = subst (λ (z : Seeker). place_of z.list p < length z.list) here.1 less in
+            let one : s ≡ a = cc in
             subst (λ (z : Seeker). place_of z.list p < length z.list) one (subst (λ n. place_of s.list n < length s.list) (alone_wants q p less') wanted)
-        | inr other ↦ let e = other.1 in let one : b ≡ a = cc in subst (λ (z : Seeker). place_of z.list p < length z.list) one less
+        | inr other ↦ let one : b ≡ a = cc in subst (λ (z : Seeker). place_of z.list p < length z.list) one less
       ];
     })
 
@@ -89,30 +79,21 @@ alone_fair : (rule : Rule) (MayApply : ℕ → List Person → Type 0) (well : C
 alone_fair rule MayApply well count i seekers seats s x market fair there has =
     still_fair rule MayApply well count seekers (slice_set seekers i (with_list s (x.prog ∷ []))) market seats (length-set seekers i (with_list s (x.prog ∷ [])))
     (λ j a b at at'. elim (at_set seekers i j s (with_list s (x.prog ∷ [])) b there at') [
-      | inl here ↦
-          let at_i : slice_get seekers i ≡ Some a = subst (λ k. slice_get seekers k ≡ Some a) here.0 at in
-          let one : a ≡ s = cc in
-          ap (λ (z : Seeker). z.person) one ∙ ap (λ (z : Seeker). z.person) (sym here.1)
-      | inr other ↦ let e = other.1 in let one : a ≡ b = cc in ap (λ (z : Seeker). z.person) one
+      | inl here ↦ cc
+      | inr other ↦ cc
     ])
     (λ j a b at at' seat has'. elim (at_set seekers i j s (with_list s (x.prog ∷ [])) b there at') [
       | inl here ↦
-          let has_i : slice_get seats i ≡ Some seat = subst (λ k. slice_get seats k ≡ Some seat) here.0 has' in
           let value : Some x ≡ seat = cc in
-          subst (λ (z : Seeker). IsOwn z.list seat) (sym here.1) (subst (λ o. IsOwn (x.prog ∷ []) o) value (let place = alone_place x.prog in omega (arith, place)))
+          subst (λ (z : Seeker). IsOwn z.list seat) (sym here.1) (subst (λ o. IsOwn (x.prog ∷ []) o) value (omega (arith, alone_place x.prog)))
       | inr other ↦ fair.allocation.own j b seat other.1 has'
     ])
     (λ j a b at at' q seat has' applied. elim (at_set seekers i j s (with_list s (x.prog ∷ [])) b there at') [
       | inl here ↦
-          let at_i : slice_get seekers i ≡ Some a = subst (λ k. slice_get seekers k ≡ Some a) here.0 at in
-          let one : s ≡ a = cc in
-          let has_i : slice_get seats i ≡ Some seat = subst (λ k. slice_get seats k ≡ Some seat) here.0 has' in
-          let value : Some x ≡ seat = cc in
-          let wants = (applies_means q (x.prog ∷ []) seat (subst (λ (z : Seeker). applies q z.list seat ≡ true) here.1 applied)).wants in
-          let same = alone_wants x.prog q wants in
-          let held : applies q s.list (Some x) ≡ true = holder_applies q s.list (Some x) (fair.allocation.own i s (Some x) there has) (eq-eqb x.prog.0 q same) in
-          subst (λ (z : Seeker). applies q z.list seat ≡ true) one (subst (λ o. applies q s.list o ≡ true) value held)
-      | inr other ↦ let e = other.1 in let one : b ≡ a = cc in subst (λ (z : Seeker). applies q z.list seat ≡ true) one applied
+          let wants = (applies_means q (x.prog ∷ []) seat (let mine : b ≡ with_list s (x.prog ∷ []) = here.1 in cc)).wants in
+          let held = holder_applies q s.list (Some x) (fair.allocation.own i s (Some x) there has) (eq-eqb x.prog.0 q (alone_wants x.prog q wants)) in
+          cc
+      | inr other ↦ cc
     ])
     fair
 
@@ -177,21 +158,9 @@ module _ (rule : Rule) (MayApply : ℕ → List Person → Type 0) (well : Choos
   here' : slice_get alone' i ≡ Some (with_list t only)
   here' = get_set_same changed i (with_list t only) t there'
 
-  size : length alone' ≡ length alone
-  size = length-set changed i (with_list t only) ∙ (full ∙ sym (length-set seekers i (with_list s only)))
-
-  -- at each other place all of them have the same seeker
-  elsewhere : (j : ℕ) (u : Seeker) → j ≢ i → slice_get alone j ≡ Some u → slice_get alone' j ≡ Some u
-  elsewhere j u apart at = get_set_other changed i j (with_list t only) apart ∙ (rest j apart ∙ (sym (get_set_other seekers i j (with_list s only) apart) ∙ at))
-
-  elsewhere_back : (j : ℕ) (u : Seeker) → j ≢ i → slice_get alone' j ≡ Some u → slice_get alone j ≡ Some u
-  elsewhere_back j u apart at = get_set_other seekers i j (with_list s only) apart ∙ (sym (rest j apart) ∙ (sym (get_set_other changed i j (with_list t only) apart) ∙ at))
-
-  in_gone : (j : ℕ) (u : Seeker) → j ≢ i → slice_get alone j ≡ Some u → slice_get gone j ≡ Some u
-  in_gone j u apart at = get_set_other seekers i j (with_list s []) apart ∙ (sym (get_set_other seekers i j (with_list s only) apart) ∙ at)
-
-  in_gone' : (j : ℕ) (u : Seeker) → j ≢ i → slice_get alone' j ≡ Some u → slice_get gone' j ≡ Some u
-  in_gone' j u apart at = get_set_other changed i j (with_list t []) apart ∙ (sym (get_set_other changed i j (with_list t only) apart) ∙ at)
+  -- at each other place both markets have the same seeker
+  other_market : (j : ℕ) (u : Seeker) → j ≢ i → slice_get alone j ≡ Some u → slice_get alone' j ≡ Some u
+  other_market j u apart = at_another seekers changed i j (with_list s only) (with_list t only) u (rest j apart) apart
 
   -- ---- an allocation of the changed market in which the one has nothing
 
@@ -199,30 +168,15 @@ module _ (rule : Rule) (MayApply : ℕ → List Person → Type 0) (well : Choos
     abbrev test : ℕ → Seeker → Option Seat → Bool
     test q u seat = applies q u.list seat
 
-    abbrev those_alone : ℕ → List Person
-    those_alone q = applicants q alone none_seats
-
-    abbrev those_alone' : ℕ → List Person
-    those_alone' q = applicants q alone' none_seats
-
-    abbrev those_gone : ℕ → List Person
-    those_gone q = applicants q gone none_seats
-
-    abbrev those_gone' : ℕ → List Person
-    those_gone' q = applicants q gone' none_seats
-
-    same_gone : (q : ℕ) → those_gone q ≡ those_gone' q
+    same_gone : (q : ℕ) → applicants q gone none_seats ≡ applicants q gone' none_seats
     same_gone q =
         those_apart (test q) gone gone' none_seats (length-set changed i (with_list t []) ∙ (full ∙ sym (length-set seekers i (with_list s []))))
         (λ j u v y at at' has'. elim (at_set seekers i j s (with_list s []) u there at) [
           | inl mine ↦
-              let at_i : slice_get gone' i ≡ Some v = subst (λ k. slice_get gone' k ≡ Some v) mine.0 at' in
               let at_t = get_set_same changed i (with_list t []) t there' in
               let its : v ≡ with_list t [] = cc in
               inr (ap (λ (z : Seeker). applies q z.list y) mine.1 ∙ no_list q y, ap (λ (z : Seeker). applies q z.list y) its ∙ no_list q y)
-          | inr other ↦
-              let its = get_set_other changed i j (with_list t []) other.0 ∙ (rest j other.0 ∙ other.1) in
-              inl (let e : Some u ≡ Some v = sym its ∙ at' in cc)
+          | inr other ↦ let its = get_set_other changed i j (with_list t []) other.0 ∙ (rest j other.0 ∙ other.1) in inl (cc)
         ])
 
     -- those who seek something else apply in both
@@ -233,109 +187,80 @@ module _ (rule : Rule) (MayApply : ℕ → List Person → Type 0) (well : Choos
           seekers = sym count_same;
           values = refl;
           persons = λ j u v at at'. elim (cases_eq j i) [
-            | inl mine ↦
-                let first : slice_get some i ≡ Some u = subst (λ k. slice_get some k ≡ Some u) mine at in
-                let second : slice_get all i ≡ Some v = subst (λ k. slice_get all k ≡ Some v) mine at' in
-                let one : u ≡ with_list w [] = (let e : Some u ≡ Some (with_list w []) = sym first ∙ at_i in cc) in
-                ap (λ (z : Seeker). z.person) one ∙ sym (who i v second)
-            | inr apart ↦ let e = others j v apart at' in let one : u ≡ v = cc in ap (λ (z : Seeker). z.person) one
+            | inl mine ↦ let one : u ≡ with_list w [] = cc in let same = who j v (cc) in cc
+            | inr apart ↦ let e = others j v apart at' in cc
           ];
           passes = λ j u v y z at at' has' has'' h. elim (cases_eq j i) [
-            | inl mine ↦ absurd (
-                let first : slice_get some i ≡ Some u = subst (λ k. slice_get some k ≡ Some u) mine at in
-                let one : u ≡ with_list w [] = (let e : Some u ≡ Some (with_list w []) = sym first ∙ at_i in cc) in
-                let no = no_list q y in
-                let is_yes = subst (λ (k : Seeker). applies q k.list y ≡ true) one h in
-                let e : true ≡ false = sym is_yes ∙ no in
-                cc)
-            | inr apart ↦
-                let e = others j v apart at' in
-                let one : u ≡ v = cc in
-                let value : y ≡ z = cc in
-                subst (λ o. applies q v.list o ≡ true) value (subst (λ (k : Seeker). applies q k.list y ≡ true) one h)
+            | inl mine ↦ let one : u ≡ with_list w [] = cc in let no = no_list q y in absurd (cc)
+            | inr apart ↦ let e = others j v apart at' in cc
           ];
         })
 
-    sub : (q : ℕ) → IsSublist (those_gone q) (those_alone q)
+    sub : (q : ℕ) → IsSublist (applicants q gone none_seats) (applicants q alone none_seats)
     sub q =
         sub_of q alone gone s (length-set seekers i (with_list s []) ∙ sym (length-set seekers i (with_list s only))) (get_set_same seekers i (with_list s []) s there)
-        (λ j u at. let e = here in let one : u ≡ with_list s only = cc in ap (λ (z : Seeker). z.person) one) in_gone
+        (λ j u at. let e = here in cc) (λ j u. at_another seekers seekers i j (with_list s only) (with_list s []) u refl)
 
-    sub' : (q : ℕ) → IsSublist (those_gone' q) (those_alone' q)
+    sub' : (q : ℕ) → IsSublist (applicants q gone' none_seats) (applicants q alone' none_seats)
     sub' q =
         sub_of q alone' gone' t (length-set changed i (with_list t []) ∙ sym (length-set changed i (with_list t only))) (get_set_same changed i (with_list t []) t there')
-        (λ j u at. let e = here' in let one : u ≡ with_list t only = cc in ap (λ (z : Seeker). z.person) one) in_gone'
+        (λ j u at. let e = here' in cc) (λ j u. at_another changed changed i j (with_list t only) (with_list t []) u refl)
 
     full_alone : length none_seats ≡ length alone
-    full_alone = fair'.allocation.full ∙ size
+    full_alone = fair'.allocation.full ∙ (length-set changed i (with_list t only) ∙ (full ∙ sym (length-set seekers i (with_list s only))))
 
-    may : (q : ℕ) → q < count → MayApply q (those_alone q)
+    may : (q : ℕ) → q < count → MayApply q (applicants q alone none_seats)
     may q below = applicants_may rule MayApply count q alone none_seats one_market well below full_alone
 
-    may' : (q : ℕ) → q < count → MayApply q (those_alone' q)
+    may' : (q : ℕ) → q < count → MayApply q (applicants q alone' none_seats)
     may' q below = applicants_may rule MayApply count q alone' none_seats one_market' well below fair'.allocation.full
 
     -- everybody else who applies in one market applies in the other
-    both : (q : ℕ) → IsAmong s.person (those_alone q) → AreTheSameBut s.person t.person (those_alone q) (those_alone' q)
+    both : (q : ℕ) → IsAmong s.person (applicants q alone none_seats) → AreTheSameBut s.person t.person (applicants q alone none_seats) (applicants q alone' none_seats)
     both q stands = record {
       there = stands;
       there_after =
           let found = of_those (test q) alone none_seats s.person stands in
           let place : found.place ≡ i = same_place alone found.place i found.s (with_list s only) one_market.ids found.there here (ap (λ (z : Person). z.id) (sym found.person_is)) in
-          let at_i : slice_get alone i ≡ Some found.s = subst (λ k. slice_get alone k ≡ Some found.s) place found.there in
-          let value_i : slice_get none_seats i ≡ Some found.value = subst (λ k. slice_get none_seats k ≡ Some found.value) place found.at in
-          let mine : found.s ≡ with_list s only = (let e : Some found.s ≡ Some (with_list s only) = sym at_i ∙ here in cc) in
-          let value : found.value ≡ None = (let e : Some found.value ≡ Some None = sym value_i ∙ none in cc) in
-          let applied : applies q only None ≡ true = subst (λ o. applies q only o ≡ true) value (subst (λ (z : Seeker). applies q z.list found.value ≡ true) mine found.passes) in
+          let mine : found.s ≡ with_list s only = cc (here, found.there) in
+          let value : found.value ≡ None = cc (found.at) in
+          let applied : applies q only None ≡ true = cc (found.passes) in
           those_has (test q) alone' none_seats i (with_list t only) None here' none applied;
       rest = λ other apart. (
         (λ inside.
             let found = of_those (test q) alone none_seats other inside in
-            let off : found.place ≢ i = λ e. apart (
-            let at_i : slice_get alone i ≡ Some found.s = subst (λ k. slice_get alone k ≡ Some found.s) e found.there in
-            let mine : found.s ≡ with_list s only = (let e' : Some found.s ≡ Some (with_list s only) = sym at_i ∙ here in cc) in
-            ap (λ (z : Person). z.id) found.person_is ∙ ap (λ (z : Seeker). z.person.id) mine) in
-            subst (λ z. IsAmong z (those_alone' q)) (sym found.person_is) (those_has (test q) alone' none_seats found.place found.s found.value (elsewhere found.place found.s off found.there) found.at found.passes)),
+            let off : found.place ≢ i = λ e. apart (let mine : found.s ≡ with_list s only = cc (here, found.there) in cc (found.person_is)) in
+            subst (λ z. IsAmong z (applicants q alone' none_seats)) (sym found.person_is) (those_has (test q) alone' none_seats found.place found.s found.value (other_market found.place found.s off found.there) found.at found.passes)),
         (λ inside.
             let found = of_those (test q) alone' none_seats other inside in
-            let off : found.place ≢ i = λ e. apart (
-            let at_i : slice_get alone' i ≡ Some found.s = subst (λ k. slice_get alone' k ≡ Some found.s) e found.there in
-            let mine : found.s ≡ with_list t only = (let e' : Some found.s ≡ Some (with_list t only) = sym at_i ∙ here' in cc) in
-            ap (λ (z : Person). z.id) found.person_is ∙ (ap (λ (z : Seeker). z.person.id) mine ∙ same_id)) in
-            subst (λ z. IsAmong z (those_alone q)) (sym found.person_is) (those_has (test q) alone none_seats found.place found.s found.value (elsewhere_back found.place found.s off found.there) found.at found.passes)),
+            let off : found.place ≢ i = λ e. apart (let mine : found.s ≡ with_list t only = cc (here', found.there) in cc (found.person_is)) in
+            subst (λ z. IsAmong z (applicants q alone none_seats)) (sym found.person_is) (those_has (test q) alone none_seats found.place found.s found.value (at_another changed seekers i found.place (with_list t only) (with_list s only) found.s (sym (rest found.place off)) off found.there) found.at found.passes)),
       );
     }
 
     -- no programme admits the one before
-    refused : (q : ℕ) (kind : StepKind) → q < count → rule q (those_alone q) s.person kind → ⊥
+    refused : (q : ℕ) (kind : StepKind) → q < count → rule q (applicants q alone none_seats) s.person kind → ⊥
     refused q kind below admits =
-        let stands = well.among q (those_alone q) s.person kind (may q below) admits in
-        let taken = improves q (those_alone q) (those_alone' q) below (may q below) (may' q below) (both q stands) (kind, admits) in
+        let stands = well.among q (applicants q alone none_seats) s.person kind (may q below) admits in
+        let taken = improves q (applicants q alone none_seats) (applicants q alone' none_seats) below (may q below) (may' q below) (both q stands) (kind, admits) in
         let got = (fair'.agrees q i (with_list t only) taken.0 below here').0 taken.1 in
-        let e : Some None ≡ Some (Some (seat_at q taken.0)) = sym none ∙ got in
         cc
 
-    outside : (q : ℕ) → q < count → (y : Person) → IsAmong y (those_alone q) → (IsAmong y (those_gone q) → ⊥) → (kind : StepKind) → rule q (those_alone q) y kind → ⊥
+    outside : (q : ℕ) → q < count → (y : Person) → IsAmong y (applicants q alone none_seats) → (IsAmong y (applicants q gone none_seats) → ⊥) → (kind : StepKind) → rule q (applicants q alone none_seats) y kind → ⊥
     outside q below y inside apart kind admits =
         let found = of_those (test q) alone none_seats y inside in
         elim (cases_eq found.place i) [
           | inl mine ↦
-              let at_i : slice_get alone i ≡ Some found.s = subst (λ k. slice_get alone k ≡ Some found.s) mine found.there in
-              let one : found.s ≡ with_list s only = (let e : Some found.s ≡ Some (with_list s only) = sym at_i ∙ here in cc) in
-              refused q kind below (subst (λ z. rule q (those_alone q) z kind) (found.person_is ∙ ap (λ (z : Seeker). z.person) one) admits)
+              let one : found.s ≡ with_list s only = cc (here, found.there) in
+              refused q kind below (subst (λ z. rule q (applicants q alone none_seats) z kind) (found.person_is ∙ ap (λ (z : Seeker). z.person) one) admits)
           | inr off ↦
-              apart (subst (λ z. IsAmong z (those_gone q)) (sym found.person_is) (those_has (test q) gone none_seats found.place found.s found.value (in_gone found.place found.s off found.there) found.at found.passes))
+              apart (subst (λ z. IsAmong z (applicants q gone none_seats)) (sym found.person_is) (those_has (test q) gone none_seats found.place found.s found.value (at_another seekers seekers i found.place (with_list s only) (with_list s []) found.s refl off found.there) found.at found.passes))
         ]
 
-    holders_gone : (q : ℕ) (j : ℕ) (u : Seeker) (seat : Option Seat) → slice_get alone' j ≡ Some u → slice_get none_seats j ≡ Some seat → is_of q seat ≡ true → IsAmong u.person (those_gone' q)
+    holders_gone : (q : ℕ) (j : ℕ) (u : Seeker) (seat : Option Seat) → slice_get alone' j ≡ Some u → slice_get none_seats j ≡ Some seat → is_of q seat ≡ true → IsAmong u.person (applicants q gone' none_seats)
     holders_gone q j u seat at has' holds = elim (cases_eq j i) [
-      | inl mine ↦ absurd (
-          let value : slice_get none_seats i ≡ Some seat = subst (λ k. slice_get none_seats k ≡ Some seat) mine has' in
-          let e : None ≡ seat = (let e' : Some None ≡ Some seat = sym none ∙ value in cc) in
-          let no : is_of q None ≡ true = subst (λ o. is_of q o ≡ true) (sym e) holds in
-          let f : false ≡ true = no in
-          cc)
-      | inr off ↦ those_has (test q) gone' none_seats j u seat (in_gone' j u off at) has' (holder_applies q u.list seat (fair'.allocation.own j u seat at has') holds)
+      | inl mine ↦ absurd (let no : is_of q None ≡ true = cc in cc)
+      | inr off ↦ those_has (test q) gone' none_seats j u seat (at_another changed changed i j (with_list t only) (with_list t []) u refl off at) has' (holder_applies q u.list seat (fair'.allocation.own j u seat at has') holds)
     ]
 
     -- it is fair in the market before
@@ -344,26 +269,21 @@ module _ (rule : Rule) (MayApply : ℕ → List Person → Type 0) (well : Choos
       allocation = record {
         full = full_alone;
         own = λ j u seat at has'. elim (cases_eq j i) [
-          | inl mine ↦
-              let value : slice_get none_seats i ≡ Some seat = subst (λ k. slice_get none_seats k ≡ Some seat) mine has' in
-              let e : None ≡ seat = (let e' : Some None ≡ Some seat = sym none ∙ value in cc) in
-              subst (λ o. IsOwn u.list o) e tt
-          | inr off ↦ fair'.allocation.own j u seat (elsewhere j u off at) has'
+          | inl mine ↦ let e : None ≡ seat = cc in subst (λ o. IsOwn u.list o) e tt
+          | inr off ↦ fair'.allocation.own j u seat (other_market j u off at) has'
         ];
       };
       agrees = λ q j u kind below at. elim (cases_eq j i) [
         | inl mine ↦
-            let at_i : slice_get alone i ≡ Some u = subst (λ k. slice_get alone k ≡ Some u) mine at in
-            let one : u ≡ with_list s only = (let e : Some u ≡ Some (with_list s only) = sym at_i ∙ here in cc) in (
-              (λ admits. absurd (refused q kind below (subst (λ z. rule q (those_alone q) z kind) (ap (λ (z : Seeker). z.person) one) admits))),
-              (λ has'. absurd (let value : slice_get none_seats i ≡ Some (Some (seat_at q kind)) = subst (λ k. slice_get none_seats k ≡ Some (Some (seat_at q kind))) mine has' in
-                  let e : Some None ≡ Some (Some (seat_at q kind)) = sym none ∙ value in cc)),
+            let one : u ≡ with_list s only = cc (here) in (
+              (λ admits. absurd (refused q kind below (subst (λ z. rule q (applicants q alone none_seats) z kind) (ap (λ (z : Seeker). z.person) one) admits))),
+              (λ has'. absurd (cc)),
             )
         | inr off ↦
-            let first = well.without q (those_gone q) (those_alone q) (may q below) (sub q) (outside q below) u.person kind in
-            let second = well.without q (those_gone' q) (those_alone' q) (may' q below) (sub' q)
-            (outside_refused rule count q alone' none_seats (those_gone' q) below fair' (holders_gone q)) u.person kind in
-            let agreed = fair'.agrees q j u kind below (elsewhere j u off at) in (
+            let first = well.without q (applicants q gone none_seats) (applicants q alone none_seats) (may q below) (sub q) (outside q below) u.person kind in
+            let second = well.without q (applicants q gone' none_seats) (applicants q alone' none_seats) (may' q below) (sub' q)
+            (outside_refused rule count q alone' none_seats (applicants q gone' none_seats) below fair' (holders_gone q)) u.person kind in
+            let agreed = fair'.agrees q j u kind below (other_market j u off at) in (
               (λ admits. agreed.0 (second.0 (subst (λ l. rule q l u.person kind) (same_gone q) (first.1 admits)))),
               (λ has'. first.0 (subst (λ l. rule q l u.person kind) (sym (same_gone q)) (second.1 (agreed.1 has')))),
             )
@@ -374,9 +294,7 @@ module _ (rule : Rule) (MayApply : ℕ → List Person → Type 0) (well : Choos
     pub never : ⊥
     never =
         let alike = fair_seat_alike rule MayApply well no_fewer count alone seats none_seats one_market one_fair none_fair in
-        let e = (alike.unseated i).1 none in
-        let f : Some (Some x) ≡ Some None = sym has ∙ e in
-        cc
+        cc ((alike.unseated i).1 none)
 
   -- so in the changed market the one has a seat of that programme, where it is sought alone, and no worse by the whole list
   pub no_worse : (others : List (Option Seat)) (other : Option Seat) → IsBest rule count changed others → slice_get others i ≡ Some other → rank_of s.list other ≤ place_of s.list x.prog.0
@@ -389,8 +307,7 @@ module _ (rule : Rule) (MayApply : ℕ → List Person → Type 0) (well : Choos
       by_seat alone_seats fair' None at = absurd (never alone_seats fair' at)
       by_seat alone_seats fair' (Some y) at =
           let own : place_of only y.prog.0 < 1 = fair'.allocation.own i (with_list t only) (Some y) here' at in
-          let same = alone_wants x.prog y.prog.0 own in
           let result : rank_of t.list other ≤ place_of t.list y.prog.0 =
           truth_is_best rule MayApply well no_fewer count i changed alone' others alone_seats t other (Some y) market' one_market' (set_tells i changed t only there') best fair' there' has' at in
           let by_list : rank_of s.list other ≤ place_of s.list y.prog.0 = subst (λ l. rank_of l other ≤ place_of l y.prog.0) same_list result in
-          subst (λ n. rank_of s.list other ≤ place_of s.list n) (sym same) by_list
+          subst (λ n. rank_of s.list other ≤ place_of s.list n) (sym (alone_wants x.prog y.prog.0 own)) by_list
