@@ -11,7 +11,7 @@ use Rattle.office_base.specs.declared.step.StepKind.{StepKind}
 use Rattle.office_base.proofs.Lists.{get_set_other}
 use Rattle.allocations.specs.Compared.{TellsAnother}
 use Rattle.allocations.specs.Fair.{IsBest, IsFair, IsMarket, IsOwn}
-use Rattle.allocations.specs.Market.{Seeker, applicants, applies, is_of, place_of, rank_of, seat_at, those}
+use Rattle.allocations.specs.Market.{Seeker, applicants, applies, is_of, place_of, rank_of, those}
 use Rattle.allocations.specs.Rule.{Admits, AdmitsNoFewer, ChoosesWell, Rule}
 use Rattle.allocations.proofs.Best.{best_there}
 use Rattle.allocations.proofs.Claims.{applicants_may, outside_refused}

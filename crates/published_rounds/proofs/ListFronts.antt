@@ -40,28 +40,18 @@ pub record AppliesBy (n : ℕ) (list : List ProgId) (p : ℕ) (seat : Option Sea
   pub on : place_of list p < length list
   pub within : place_of list p ≤ rank_of list seat
 
-pub applies_by : (n : ℕ) (list : List ProgId) (p : ℕ) (seat : Option Seat) → IsOwn (take n list) seat → applies p (take n list) seat ≡ true → AppliesBy n list p seat
-applies_by n list p None own h =
-    let a = applies_means p (take n list) None h in
+rank_front : (n : ℕ) (list : List ProgId) (seat : Option Seat) → rank_of (take n list) seat ≡ min (rank_of list seat) n
+rank_front n list None = omega (arith, length-take n list)
+rank_front n list (Some y) = front_place n list y.prog.0
+
+pub applies_by : (n : ℕ) (list : List ProgId) (p : ℕ) (seat : Option Seat) → applies p (take n list) seat ≡ true → AppliesBy n list p seat
+applies_by n list p seat h =
+    let a = applies_means p (take n list) seat h in
     let at = on_front n list p a.wants in
-    record { before = at.before; on = at.on; within = (let less = at.on in omega (arith, less)) }
-applies_by n list p (Some y) own h =
-    let a = applies_means p (take n list) (Some y) h in
-    let at = on_front n list p a.wants in
-    let mine = on_front n list y.prog.0 own in
-    let within : place_of (take n list) p ≤ place_of (take n list) y.prog.0 = a.within in
-    record { before = at.before; on = at.on; within = omega (arith, within, front_place n list p, front_place n list y.prog.0) }
+    record { before = at.before; on = at.on; within = omega (arith, a.within, at.before, front_place n list p, rank_front n list seat) }
 
 pub by_applies : (n : ℕ) (list : List ProgId) (p : ℕ) (seat : Option Seat) → AppliesBy n list p seat → applies p (take n list) seat ≡ true
-by_applies n list p None a =
-    let before = a.before in
-    let on = a.on in
-    let less = front_on n list p before on in
-    applies_true p (take n list) None less (omega (arith, less))
-by_applies n list p (Some y) a =
-    let before = a.before in
-    let on = a.on in
-    applies_true p (take n list) (Some y) (front_on n list p before on) (omega (arith, front_place n list p, front_place n list y.prog.0, before))
+by_applies n list p seat a = applies_true p (take n list) seat (front_on n list p a.before a.on) (omega (arith, front_place n list p, rank_front n list seat))
 
 -- a seat is at a place of a front, or there is none
 abbrev pub IsWithin : ℕ → List ProgId → Option Seat → Type 0
@@ -79,11 +69,8 @@ own_within n list (Some y) at = front_on n list y.prog.0 at.0 at.1
 -- of seats of a front, the one that is no later there is no later on the list
 pub ranks_by : (n : ℕ) (list : List ProgId) (x y : Option Seat) → IsWithin n list x → IsWithin n list y → rank_of (take n list) x ≤ rank_of (take n list) y → rank_of list x ≤ rank_of list y
 ranks_by n list None None at at' le = omega arith
-ranks_by n list None (Some y) at at' le =
-    absurd (let f = front_place n list y.prog.0 in let size = length-take n list in let before = at'.0 in let on = at'.1 in omega (arith, le, f, size, before, on))
-ranks_by n list (Some x) None at at' le = let on = at.1 in omega (arith, on)
-ranks_by n list (Some x) (Some y) at at' le =
-    omega (arith, le, front_place n list x.prog.0, front_place n list y.prog.0)
+ranks_by n list None (Some y) at at' le = absurd (omega (arith, at'.0, at'.1, front_place n list y.prog.0, length-take n list))
+ranks_by n list (Some x) y at at' le = omega (arith, at.0, front_place n list x.prog.0, rank_front n list y)
 
 -- ---- the seekers with fronts of their lists
 
@@ -167,12 +154,12 @@ still_seated rule more MayApply count p i seekers next seats others s t kind mar
 
 module _ (rule : Rule) (MayApply : ℕ → List Person → Type 0) (well : ChoosesWell rule MayApply) (count : ℕ) (seekers : List Seeker) (market : IsMarket MayApply count seekers) where
   -- the seeker of a front
-  record Base (k : ℕ → ℕ) (i : ℕ) (t : Seeker) : Type 0 where
+  pub record Base (k : ℕ → ℕ) (i : ℕ) (t : Seeker) : Type 0 where
     pub s : Seeker
     pub there : slice_get seekers i ≡ Some s
     pub is : t ≡ with_list s (take (k i) s.list)
 
-  base : (k : ℕ → ℕ) (i : ℕ) (t : Seeker) → slice_get (fronted k seekers) i ≡ Some t → Base k i t
+  pub base : (k : ℕ → ℕ) (i : ℕ) (t : Seeker) → slice_get (fronted k seekers) i ≡ Some t → Base k i t
   base k i t at =
       let s = value_at (fronted k seekers) seekers i t (sym (length_fronted k seekers)) at in
       let here = fronted_at k seekers i s.0 s.1 in
@@ -182,11 +169,7 @@ module _ (rule : Rule) (MayApply : ℕ → List Person → Type 0) (well : Choos
   pub front_market : (k : ℕ → ℕ) → IsMarket MayApply count (fronted k seekers)
   front_market k = narrows_market rule MayApply well count seekers (fronted k seekers) market (record {
     same = length_fronted k seekers;
-    persons = λ i s t there at.
-        let b = base k i t at in
-        let one = b.there in
-        let same : s ≡ b.s = cc in
-        ap (λ (z : Seeker). z.person) same ∙ ap (λ (z : Seeker). z.person) (sym b.is);
+    persons = λ i s t there at. let b = base k i t at in cc (b.there, b.is);
     distinct = λ i j t q at get.
         let b = base k i t at in
         let get' = subst (λ (z : Seeker). slice_get z.list j ≡ Some q) b.is get in
@@ -194,8 +177,7 @@ module _ (rule : Rule) (MayApply : ℕ → List Person → Type 0) (well : Choos
         subst (λ (z : Seeker). place_of z.list q.0 ≡ j) (sym b.is) place;
     narrowed = λ p i s t there at less.
         let b = base k i t at in
-        let one = b.there in
-        let same : b.s ≡ s = cc in
+        let same : b.s ≡ s = cc (b.there) in
         subst (λ (z : Seeker). place_of z.list p < length z.list) same
         (on_front (k i) b.s.list p (subst (λ (z : Seeker). place_of z.list p < length z.list) b.is less)).on;
   })
@@ -206,22 +188,6 @@ module _ (rule : Rule) (MayApply : ℕ → List Person → Type 0) (well : Choos
   front_within k seats i s seat fair there has =
       within_own (k i) s.list seat (fair.allocation.own i (with_list s (take (k i) s.list)) seat (fronted_at k seekers i s there) has)
 
-  -- the seeker of two fronts
-  record Both (k m : ℕ → ℕ) (i : ℕ) (a b : Seeker) : Type 0 where
-    pub s : Seeker
-    pub there : slice_get seekers i ≡ Some s
-    pub first : a ≡ with_list s (take (k i) s.list)
-    pub second : b ≡ with_list s (take (m i) s.list)
-
-  both : (k m : ℕ → ℕ) (i : ℕ) (a b : Seeker) → slice_get (fronted k seekers) i ≡ Some a → slice_get (fronted m seekers) i ≡ Some b → Both k m i a b
-  both k m i a b at at' =
-      let c = base k i a at in
-      let d = base m i b at' in
-      let one = c.there in
-      let two = d.there in
-      let same : d.s ≡ c.s = cc in
-      record { s = c.s; there = c.there; first = c.is; second = d.is ∙ ap (λ (z : Seeker). with_list z (take (m i) z.list)) same }
-
   -- fair seats by fronts are fair by others that hold them, where nobody applies to more
   pub moved : (k m : ℕ → ℕ) (seats : List (Option Seat)) → IsFair rule count (fronted k seekers) seats
       → ((i : ℕ) (s : Seeker) (seat : Option Seat) → slice_get seekers i ≡ Some s → slice_get seats i ≡ Some seat → IsWithin (m i) s.list seat)
@@ -229,16 +195,16 @@ module _ (rule : Rule) (MayApply : ℕ → List Person → Type 0) (well : Choos
       → IsFair rule count (fronted m seekers) seats
   moved k m seats fair own narrow =
       still_fair rule MayApply well count (fronted k seekers) (fronted m seekers) (front_market k) seats (length_fronted m seekers ∙ sym (length_fronted k seekers))
-      (λ i a b at at'. let c = both k m i a b at at' in ap (λ (z : Seeker). z.person) c.first ∙ ap (λ (z : Seeker). z.person) (sym c.second))
+      (λ i a b at at'. let c = base k i a at in let d = base m i b at' in cc (c.there, c.is, d.there, d.is))
       (λ i a b at at' seat has.
-      let c = both k m i a b at at' in
-      subst (λ (z : Seeker). IsOwn z.list seat) (sym c.second) (own_within (m i) c.s.list seat (own i c.s seat c.there has)))
+      let d = base m i b at' in
+      subst (λ (z : Seeker). IsOwn z.list seat) (sym d.is) (own_within (m i) d.s.list seat (own i d.s seat d.there has)))
       (λ i a b at at' p seat has h.
-      let c = both k m i a b at at' in
-      let mine = own i c.s seat c.there has in
-      let by = applies_by (m i) c.s.list p seat (own_within (m i) c.s.list seat mine) (subst (λ (z : Seeker). applies p z.list seat ≡ true) c.second h) in
-      subst (λ (z : Seeker). applies p z.list seat ≡ true) (sym c.first)
-      (by_applies (k i) c.s.list p seat (record { before = narrow i p c.s seat c.there has by; on = by.on; within = by.within })))
+      let c = base k i a at in
+      let d = base m i b at' in
+      let by = applies_by (m i) d.s.list p seat (subst (λ (z : Seeker). applies p z.list seat ≡ true) d.is h) in
+      let still = by_applies (k i) d.s.list p seat (record { before = narrow i p d.s seat d.there has by; on = by.on; within = by.within }) in
+      cc (c.there, c.is, d.there))
       fair
 
 -- ---- where some list less, and programmes admit whom they admitted
@@ -261,44 +227,41 @@ module _ (rule more : Rule) (MayApply : ℕ → List Person → Type 0) (well : 
     persons = λ i a b at at'.
         let c = base more MayApply well count seekers market m i a at in
         let d = base more MayApply well count seekers market upto i b at' in
-        let one = c.there in
-        let two = d.there in
-        let same : c.s ≡ d.s = cc in
-        ap (λ (z : Seeker). z.person) c.is ∙ (ap (λ (z : Seeker). z.person) same ∙ ap (λ (z : Seeker). z.person) (sym d.is));
+        cc (c.there, c.is, d.there, d.is);
     narrowed = λ p i a b seat at at' has less.
         let c = base more MayApply well count seekers market m i a at in
         let d = base more MayApply well count seekers market upto i b at' in
-        let one = c.there in
-        let two = d.there in
-        let same : d.s ≡ c.s = cc in
-        let less' = subst (λ (z : Seeker). place_of (take (upto i) z.list) p < length (take (upto i) z.list)) same
-        (subst (λ (z : Seeker). place_of z.list p < length z.list) d.is less) in
-        let on = on_front (upto i) c.s.list p less' in
+        let is_front : b ≡ with_list c.s (take (upto i) c.s.list) = cc (c.there, d.there, d.is) in
+        let on = on_front (upto i) c.s.list p (subst (λ (z : Seeker). place_of z.list p < length z.list) is_front less) in
         let before = on.before in
         let rank = rank_there seekers seats i c.s seat c.there has in
         subst (λ (z : Seeker). applies p z.list seat ≡ true) (sym c.is)
         (by_applies (m i) c.s.list p seat (record { before = omega (arith, before, shorter i); on = on.on; within = omega (arith, before, rank) }));
   }
 
+  -- who still lists their seat has one so far
+  has_one : (i : ℕ) (s : Seeker) (y : Seat) → slice_get seekers i ≡ Some s → slice_get seats i ≡ Some (Some y) → slice_get small.0 i ≡ Some None → place_of s.list y.prog.0 < k i → ⊥
+  has_one i s y there has none listed =
+      let own = within_own (m i) s.list (Some y) (fair.allocation.own i (with_list s (take (m i) s.list)) (Some y) (fronted_at m seekers i s there) has) in
+      let read = place_read s.list y.prog.0 own.1 in
+      let below = subst (λ n. n < count) read.2 (market.below i (place_of s.list y.prog.0) s read.0 there read.1) in
+      still_seated rule more MayApply count y.prog.0 i (fronted m seekers) (fronted upto seekers) seats small.0 (with_list s (take (m i) s.list)) (with_list s (take (upto i) s.list)) y.step
+      (front_market more MayApply well count seekers market m) well grows fair small.1.fair narrows below (fronted_at m seekers i s there) (fronted_at upto seekers i s there) has
+      (front_on (upto i) s.list y.prog.0 (omega (arith, listed, rank_there seekers seats i s (Some y) there has)) own.1) none
+
   -- who has no seat so far had none, or no longer lists it
   not_listed : (i : ℕ) (s : Seeker) (seat : Option Seat) → slice_get seekers i ≡ Some s → slice_get seats i ≡ Some seat → slice_get small.0 i ≡ Some None
       → (p : ℕ) → place_of s.list p < k i → place_of s.list p < length s.list → place_of s.list p < upto i
   not_listed i s None there has none p before on = let rank = rank_there seekers seats i s None there has in omega (arith, rank, before, on)
   not_listed i s (Some y) there has none p before on = elim (cases_lt (place_of s.list y.prog.0) (k i)) [
-    | inl listed ↦ absurd (
-        let own = within_own (m i) s.list (Some y) (fair.allocation.own i (with_list s (take (m i) s.list)) (Some y) (fronted_at m seekers i s there) has) in
-        let read = place_read s.list y.prog.0 own.1 in
-        let below = subst (λ n. n < count) read.2 (market.below i (place_of s.list y.prog.0) s read.0 there read.1) in
-        still_seated rule more MayApply count y.prog.0 i (fronted m seekers) (fronted upto seekers) seats small.0 (with_list s (take (m i) s.list)) (with_list s (take (upto i) s.list)) y.step
-        (front_market more MayApply well count seekers market m) well grows fair small.1.fair narrows below (fronted_at m seekers i s there) (fronted_at upto seekers i s there) has
-        (front_on (upto i) s.list y.prog.0 (omega (arith, listed, rank_there seekers seats i s (Some y) there has)) own.1) none)
+    | inl listed ↦ absurd (has_one i s y there has none listed)
     | inr gone ↦ let rank = rank_there seekers seats i s (Some y) there has in omega (arith, gone, rank, before)
   ]
 
   small_fair : IsFair more count (fronted k seekers) small.0
   small_fair = moved more MayApply well count seekers market upto k small.0 small.1.fair
       (λ i s z there has. longer i s z (front_within more MayApply well count seekers market upto small.0 i s z small.1.fair there has))
-      (λ i p s z there has a. applied i p s z there has a)
+      applied
     where
       longer : (i : ℕ) (s : Seeker) (z : Option Seat) → IsWithin (upto i) s.list z → IsWithin (k i) s.list z
       longer i s None at = tt
@@ -313,21 +276,11 @@ module _ (rule more : Rule) (MayApply : ℕ → List Person → Type 0) (well : 
   -- so far the seats are no later
   no_later : (i : ℕ) (s : Seeker) (seat z : Option Seat) → slice_get seekers i ≡ Some s → slice_get seats i ≡ Some seat → slice_get small.0 i ≡ Some z → IsWithin (k i) s.list seat
       → rank_of s.list z ≤ rank_of s.list seat
-  no_later i s None z there has at listed = rank_within_by s z (front_within more MayApply well count seekers market upto small.0 i s z small.1.fair there at)
-    where
-      rank_within_by : (s : Seeker) (z : Option Seat) → IsWithin (upto i) s.list z → rank_of s.list z ≤ length s.list
-      rank_within_by s None at = omega arith
-      rank_within_by s (Some w) at = let on = at.1 in omega (arith, on)
-  no_later i s (Some y) None there has at listed = absurd (
-      let own = within_own (m i) s.list (Some y) (fair.allocation.own i (with_list s (take (m i) s.list)) (Some y) (fronted_at m seekers i s there) has) in
-      let read = place_read s.list y.prog.0 own.1 in
-      let below = subst (λ n. n < count) read.2 (market.below i (place_of s.list y.prog.0) s read.0 there read.1) in
-      still_seated rule more MayApply count y.prog.0 i (fronted m seekers) (fronted upto seekers) seats small.0 (with_list s (take (m i) s.list)) (with_list s (take (upto i) s.list)) y.step
-      (front_market more MayApply well count seekers market m) well grows fair small.1.fair narrows below (fronted_at m seekers i s there) (fronted_at upto seekers i s there) has
-      (front_on (upto i) s.list y.prog.0 (omega (arith, rank_there seekers seats i s (Some y) there has)) own.1) at)
-  no_later i s (Some y) (Some w) there has at listed =
+  no_later i s None None there has at listed = omega arith
+  no_later i s (Some y) None there has at listed = absurd (has_one i s y there has at listed.0)
+  no_later i s seat (Some w) there has at listed =
       let own = front_within more MayApply well count seekers market upto small.0 i s (Some w) small.1.fair there at in
-      omega (arith, rank_there seekers seats i s (Some y) there has)
+      omega (arith, own.0, rank_there seekers seats i s seat there has)
 
   -- nobody who still lists their seat has a worse one by the best seats
   pub still_listed : (others : List (Option Seat)) (i : ℕ) (s : Seeker) (seat other : Option Seat) → IsBest more count (fronted k seekers) others → slice_get seekers i ≡ Some s

@@ -295,7 +295,7 @@ module _ (well : ProgrammesChooseWell) (exists : ProgrammeChoiceExists) (one : O
 
       none_open : seat ≡ None → (prog : ℕ) → wants prog s.list ≡ true → IsOpenTo table seekers seats prog s.person → ⊥
       none_open none prog wanted is_open =
-          let less = ltb-true _ _ wanted in
+          let less : place_of s.list prog < length s.list = ltb-true _ _ wanted in
           omega (arith, open_gives passes prog i s None there (has ∙ ap Some none) less is_open, less)
 
       has_seat : (prog : ℕ) (x : Option Seat) → slice_get seats i ≡ Some x → IsFirstOpen table seekers seats s prog → is_of prog x ≡ true

@@ -1,5 +1,5 @@
 -- One protected seat more for a trait keeps the chosen holders of the trait.
-use Rattle.std.proofs.Common.{◌≡◌, ◌≢◌, ◌+◌, ◌-◌, ◌<◌, ◌≤◌, inl, inr, ℕ, zero, suc, max, Bool, true, false, List, [], ◌∷◌, length, arith, refl, sym, ap, ◌∙◌, subst}
+use Rattle.std.proofs.Common.{◌≡◌, ◌≢◌, ◌+◌, ◌-◌, ◌<◌, ◌≤◌, inl, inr, ℕ, zero, suc, max, Bool, true, false, List, [], ◌∷◌, length, arith, refl, sym, ap, ◌∙◌, subst, if◌then◌else◌}
 use Rattle.std.specs.Prelude.{IsTrue}
 use Rattle.std.specs.List.{AllByRecursion}
 use Rattle.std.proofs.lemmas.Bool.{cases_eq}
@@ -70,6 +70,18 @@ module _ (one two : Protections) (t : ℕ) (more : protected two t ≡ suc (prot
     ];
   }
 
+  -- somebody else who holds that trait takes that seat
+  placed_first : (person : Person) (people : List Person) (pairs : List Pair) → IsTrue (has_trait person.traits t) → AllByRecursion (λ other. person.id ≢ other.id) people
+      → IsPlacement one people pairs → IsPlacement two (person ∷ people) (record { cand = person.id; slot = t } ∷ pairs)
+  placed_first person people pairs holds apart p = record {
+    held = (inl (refl, holds), all_weaker (λ pair. AnyByRecursion (Fills pair) people) (λ pair. AnyByRecursion (Fills pair) (person ∷ people)) (λ pair a. inr a) pairs p.held);
+    once = (nowhere one person people pairs apart p, p.once);
+    within = λ s. elim (on_or_off t s) [
+      | inl on ↦ omega (arith, subst (λ z. placed_on z pairs < protected two z) on.0 (omega (arith, p.within t, more)))
+      | inr off ↦ let was = p.within s in let few = no_fewer s in omega (arith, was, off, few)
+    ];
+  }
+
   -- at most one person more is placed
   little_more : (people : List Person) (n : ℕ) (pairs : List Pair) → IsHonoured one people n → IsPlacement two people pairs → length pairs ≤ suc n
   little_more people n pairs h p = elim (finds_on t pairs) [
@@ -84,25 +96,14 @@ module _ (one two : Protections) (t : ℕ) (more : protected two t ≡ suc (prot
   -- a stranger who holds that trait alone takes that seat
   contract : (d : Person) (people : List Person) (n : ℕ) → d.traits ≡ alone t → AllByRecursion (λ other. d.id ≢ other.id) people → IsHonoured one people n → IsHonoured two (d ∷ people) (suc n)
   contract d people n only apart h = record {
-    reached = (record { cand = d.id; slot = t } ∷ h.reached.0, placed, (let size = h.reached.2 in omega (arith, size)));
+    reached = (
+      record { cand = d.id; slot = t } ∷ h.reached.0,
+      placed_first d people h.reached.0 (subst (λ z. IsTrue (has_trait z t)) (sym only) (own_trait t)) apart h.reached.1,
+      omega (arith, h.reached.2),
+    );
     most = most;
   }
     where
-      placed : IsPlacement two (d ∷ people) (record { cand = d.id; slot = t } ∷ h.reached.0)
-      placed = record {
-        held = (
-          inl (refl, subst (λ z. IsTrue (has_trait z t)) (sym only) (own_trait t)),
-          all_weaker (λ pair. AnyByRecursion (Fills pair) people)
-              (λ pair. AnyByRecursion (Fills pair) (d ∷ people)) (λ pair a. inr a) h.reached.0 h.reached.1.held,
-        );
-        once = (nowhere one d people h.reached.0 apart h.reached.1, h.reached.1.once);
-        within = λ s. elim (on_or_off t s) [
-          | inl on ↦
-              omega (arith, subst (λ z. placed_on z h.reached.0 < protected two z) on.0 (omega (arith, h.reached.1.within t, more)))
-          | inr off ↦ let was = h.reached.1.within s in let few = no_fewer s in omega (arith, was, off, few)
-        ];
-      }
-
       most : (pairs : List Pair) → IsPlacement two (d ∷ people) pairs → length pairs ≤ suc n
       most pairs p = elim (finds d.id pairs) [
         | inl found ↦
@@ -140,19 +141,10 @@ module _ (one two : Protections) (t : ℕ) (more : protected two t ≡ suc (prot
   holder_raises : (person : Person) (before : List Person) (n : ℕ) → IsTrue (has_trait person.traits t) → AreDistinct (person ∷ before) → IsHonoured one before n → IsHonoured two before n
       → IsHonoured two (person ∷ before) (suc n)
   holder_raises person before n holds distinct h h' =
-      let pairs = h.reached.0 in
-      let placed : IsPlacement two (person ∷ before) (record { cand = person.id; slot = t } ∷ pairs) = record {
-        held = (inl (refl, holds), all_weaker (λ pair. AnyByRecursion (Fills pair) before) (λ pair. AnyByRecursion (Fills pair) (person ∷ before)) (λ pair a. inr a) pairs h.reached.1.held);
-        once = (nowhere one person before pairs distinct.0 h.reached.1, h.reached.1.once);
-        within = λ s. elim (on_or_off t s) [
-          | inl on ↦
-              omega (arith, subst (λ z. placed_on z pairs < protected two z) on.0 (omega (arith, h.reached.1.within t, more)))
-          | inr off ↦ let was = h.reached.1.within s in let few = no_fewer s in omega (arith, was, off, few)
-        ];
-      } in
+      let placed = placed_first person before h.reached.0 holds distinct.0 h.reached.1 in
       let k = honoured-exists two (person ∷ before) distinct in
       let step = one_step two person before (person ∷ before) n k.0 (among_itself (person ∷ before)) h' k.1 in
-      subst (λ z. IsHonoured two (person ∷ before) z) (omega (arith, step, k.1.most (record { cand = person.id; slot = t } ∷ pairs) placed)) k.1
+      subst (λ z. IsHonoured two (person ∷ before) z) (omega (arith, step, k.1.most (record { cand = person.id; slot = t } ∷ h.reached.0) placed)) k.1
 
 -- ---- marks down the merit order
 
@@ -162,18 +154,15 @@ record AreMarkedSoFar (protections : Protections) (before chosen : List Person) 
   pub can : CanBePlaced protections chosen
   pub was : IsHonoured protections before (length chosen)
 
-mark_next : (protections : Protections) (person : Person) (before chosen : List Person) → AreMarkedSoFar protections before chosen → IsRaise protections chosen person true
-    → AreMarkedSoFar protections (person ∷ before) (person ∷ chosen)
-mark_next protections person before chosen are raise =
+marked_next : (protections : Protections) (person : Person) (before chosen : List Person) (mark : Bool) → AreDistinct (person ∷ before) → AreMarkedSoFar protections before chosen
+    → IsRaise protections chosen person mark → AreMarkedSoFar protections (person ∷ before) (if mark then person ∷ chosen else chosen)
+marked_next protections person before chosen true distinct are raise =
     let up = raise (length chosen) (honoured_placed protections chosen are.can) in
     let all : CanBePlaced protections (person ∷ chosen) = (up.reached.0, up.reached.1, up.reached.2) in
     record { among = (inl refl, among_longer person chosen before are.among); can = all; was = taken protections person chosen before are.among are.was all }
-
-pass_next : (protections : Protections) (person : Person) (before chosen : List Person) → AreDistinct (person ∷ before) → AreMarkedSoFar protections before chosen → IsRaise protections chosen person false
-    → AreMarkedSoFar protections (person ∷ before) chosen
-pass_next protections person before chosen distinct are raise =
+marked_next protections person before chosen false distinct are raise =
     let same = raise (length chosen) (honoured_placed protections chosen are.can) in
-    let cannot : CanBePlaced protections (person ∷ chosen) → ⊥ = λ all. let most = same.most all.0 all.1 in absurd (let size = all.2 in omega (arith, size, most)) in
+    let cannot : CanBePlaced protections (person ∷ chosen) → ⊥ = λ all. absurd (omega (arith, all.2, same.most all.0 all.1)) in
     record { among = among_longer person chosen before are.among; can = are.can; was = refused protections person chosen before distinct are.among are.can are.was cannot }
 
 -- people who come are apart from those before, and from each other
@@ -206,10 +195,10 @@ all_marked protections [] before chosen (mark ∷ marks) new are told = absurd t
 all_marked protections (person ∷ people) before chosen [] new are told = absurd told
 all_marked protections (person ∷ people) before chosen (true ∷ marks) new are told =
     subst (λ n. IsHonoured protections (onto people (person ∷ before)) n) (omega arith)
-    (all_marked protections people (person ∷ before) (person ∷ chosen) marks (next_new person people before new) (mark_next protections person before chosen are told.0) told.1)
+    (all_marked protections people (person ∷ before) (person ∷ chosen) marks (next_new person people before new) (marked_next protections person before chosen true (first_new person people before new) are told.0) told.1)
 all_marked protections (person ∷ people) before chosen (false ∷ marks) new are told =
     all_marked protections people (person ∷ before) chosen marks (next_new person people before new)
-    (pass_next protections person before chosen (first_new person people before new) are told.0) told.1
+    (marked_next protections person before chosen false (first_new person people before new) are told.0) told.1
 
 -- ---- side by side
 
@@ -225,9 +214,9 @@ module _ (one two : Protections) (t : ℕ) (more : protected two t ≡ suc (prot
   still_marked : (first : Person) (before some others : List Person) → AreDistinct (first ∷ before) → AreMarkedSoFar one before some → AreMarkedSoFar two before others → IsRaise one some first true
       → IsRaise two others first false → ⊥
   still_marked first before some others distinct a b up stays =
-      let now = mark_next one first before some a up in
+      let now = marked_next one first before some true distinct a up in
       let raised = raises_still one two t more same first before (length some) (length others) distinct a.was now.was b.was in
-      let not = pass_next two first before others distinct b stays in
+      let not = marked_next two first before others false distinct b stays in
       absurd (omega (arith, honoured-one two (first ∷ before) (suc (length others)) (length others) raised not.was))
 
   -- a holder who is not marked now was not before, and there one more is marked
@@ -236,67 +225,65 @@ module _ (one two : Protections) (t : ℕ) (more : protected two t ≡ suc (prot
   not_marked before some others distinct a b stays = elim (cases_eq (length others) (length some)) [
     | inl equal ↦ absurd (
         let raised = holder_raises one two t more same person before (length some) holds distinct a.was (subst (λ n. IsHonoured two before n) equal b.was) in
-        let not = pass_next two person before others distinct b stays in
+        let not = marked_next two person before others false distinct b stays in
         omega (arith, honoured-one two (person ∷ before) (suc (length some)) (length others) raised not.was, equal))
-    | inr apart ↦ let near = close before some others a b in let low = near.0 in let high = near.1 in omega (arith, apart, low, high)
+    | inr apart ↦ let near = close before some others a b in omega arith
   ]
 
-  stays_chosen : (people before some others : List Person) (marks now : List Bool) (free left : ℕ) → AreToCome people before → AreMarkedSoFar one before some → AreMarkedSoFar two before others
-      → AreMarkedByHand one some people marks → AreMarkedByHand two others people now → free + length others ≤ left + suc (length some)
-      → IsAmong person (kept people (filled_up marks free)) → IsAmong person (kept people (filled_up now left))
-  stays_chosen [] before some others marks now free left new a b told told' room here = absurd here
-  stays_chosen (first ∷ people) before some others [] now free left new a b told told' room here = absurd told
-  stays_chosen (first ∷ people) before some others (mark ∷ marks) [] free left new a b told told' room here = absurd told'
-  stays_chosen (first ∷ people) before some others (true ∷ marks) (true ∷ now) free left new a b told told' room here = elim here [
-    | inl mine ↦ inl mine
-    | inr later ↦ inr (stays_chosen people (first ∷ before) (first ∷ some) (first ∷ others) marks now free left (next_new first people before new) (mark_next one first before some a told.0)
-        (mark_next two first before others b told'.0) told.1 told'.1 (omega (arith, room)) later)
-  ]
-  stays_chosen (first ∷ people) before some others (true ∷ marks) (false ∷ now) free left new a b told told' room here =
-      absurd (still_marked first before some others (first_new first people before new) a b told.0 told'.0)
-  stays_chosen (first ∷ people) before some others (false ∷ marks) (true ∷ now) zero left new a b told told' room here =
-      let distinct = first_new first people before new in
-      let near = close (first ∷ before) some (first ∷ others) (pass_next one first before some distinct a told.0) (mark_next two first before others b told'.0) in
-      inr (stays_chosen people (first ∷ before) some (first ∷ others) marks now zero left (next_new first people before new) (pass_next one first before some distinct a told.0)
-      (mark_next two first before others b told'.0) told.1 told'.1 (omega arith) here)
-  stays_chosen (first ∷ people) before some others (false ∷ marks) (true ∷ now) (suc free) left new a b told told' room here = elim here [
-    | inl mine ↦ inl mine
-    | inr later ↦
-        let distinct = first_new first people before new in
-        inr (stays_chosen people (first ∷ before) some (first ∷ others) marks now free left (next_new first people before new) (pass_next one first before some distinct a told.0)
-        (mark_next two first before others b told'.0) told.1 told'.1 (omega (arith, room)) later)
-  ]
-  stays_chosen (first ∷ people) before some others (false ∷ marks) (false ∷ now) zero zero new a b told told' room here =
-      let distinct = first_new first people before new in
-      stays_chosen people (first ∷ before) some others marks now zero zero (next_new first people before new) (pass_next one first before some distinct a told.0)
-      (pass_next two first before others distinct b told'.0) told.1 told'.1 (omega (arith, room)) here
-  stays_chosen (first ∷ people) before some others (false ∷ marks) (false ∷ now) zero (suc left) new a b told told' room here =
-      let distinct = first_new first people before new in
-      let near = close before some others a b in
-      inr (stays_chosen people (first ∷ before) some others marks now zero left (next_new first people before new) (pass_next one first before some distinct a told.0)
-      (pass_next two first before others distinct b told'.0) told.1 told'.1 (omega arith) here)
-  stays_chosen (first ∷ people) before some others (false ∷ marks) (false ∷ now) (suc free) zero new a b told told' room here =
-      let distinct = first_new first people before new in
-      elim here [
-        | inl mine ↦ absurd (
-            let is : person ≡ first = mine in
-            let up = not_marked before some others (subst (λ (p : Person). AreDistinct (p ∷ before)) (sym is) distinct) a b (subst (λ (p : Person). IsRaise two others p false) (sym is) told'.0) in
-            omega (arith, up, room))
-        | inr later ↦
-            let near = close before some others a b in
-            stays_chosen people (first ∷ before) some others marks now free zero (next_new first people before new) (pass_next one first before some distinct a told.0)
-            (pass_next two first before others distinct b told'.0) told.1 told'.1 (omega (arith, room)) later
-      ]
-  stays_chosen (first ∷ people) before some others (false ∷ marks) (false ∷ now) (suc free) (suc left) new a b told told' room here = elim here [
-    | inl mine ↦ inl mine
-    | inr later ↦
-        let distinct = first_new first people before new in
-        inr (stays_chosen people (first ∷ before) some others marks now free left (next_new first people before new) (pass_next one first before some distinct a told.0)
-        (pass_next two first before others distinct b told'.0) told.1 told'.1 (omega (arith, room)) later)
-  ]
+  -- the marks of both so far, and the people to come
+  record SideBySide (people before some others : List Person) : Type 0 where
+    pub new : AreToCome people before
+    pub first : AreMarkedSoFar one before some
+    pub second : AreMarkedSoFar two before others
 
-nobody_new : (people : List Person) → AreDistinct people → AreToCome people []
-nobody_new people distinct = record { apart = apart_from_nobody people; distinct = distinct; were = tt }
+  after : (next : Person) (people before some others : List Person) (mark its : Bool) → SideBySide (next ∷ people) before some others → IsRaise one some next mark → IsRaise two others next its
+      → SideBySide people (next ∷ before) (if mark then next ∷ some else some) (if its then next ∷ others else others)
+  after next people before some others mark its so_far up up' =
+      let distinct = first_new next people before so_far.new in
+      record { new = next_new next people before so_far.new; first = marked_next one next before some mark distinct so_far.first up; second = marked_next two next before others its distinct so_far.second up' }
+
+  stays_chosen : (people before some others : List Person) (marks now : List Bool) (free left : ℕ) → SideBySide people before some others → AreMarkedByHand one some people marks
+      → AreMarkedByHand two others people now → free + length others ≤ left + suc (length some) → IsAmong person (kept people (filled_up marks free)) → IsAmong person (kept people (filled_up now left))
+  stays_chosen [] before some others marks now free left so_far told told' room here = absurd here
+  stays_chosen (next ∷ people) before some others [] now free left so_far told told' room here = absurd told
+  stays_chosen (next ∷ people) before some others (mark ∷ marks) [] free left so_far told told' room here = absurd told'
+  stays_chosen (next ∷ people) before some others (true ∷ marks) (true ∷ now) free left so_far told told' room here = elim here [
+    | inl mine ↦ inl mine
+    | inr later ↦
+        let now_by = after next people before some others true true so_far told.0 told'.0 in
+        inr (stays_chosen people (next ∷ before) (next ∷ some) (next ∷ others) marks now free left now_by told.1 told'.1 (omega (arith, room)) later)
+  ]
+  stays_chosen (next ∷ people) before some others (true ∷ marks) (false ∷ now) free left so_far told told' room here =
+      absurd (still_marked next before some others (first_new next people before so_far.new) so_far.first so_far.second told.0 told'.0)
+  stays_chosen (next ∷ people) before some others (false ∷ marks) (true ∷ now) zero left so_far told told' room here =
+      let now_by = after next people before some others false true so_far told.0 told'.0 in
+      let near = close (next ∷ before) some (next ∷ others) now_by.first now_by.second in
+      inr (stays_chosen people (next ∷ before) some (next ∷ others) marks now zero left now_by told.1 told'.1 (omega arith) here)
+  stays_chosen (next ∷ people) before some others (false ∷ marks) (true ∷ now) (suc free) left so_far told told' room here = elim here [
+    | inl mine ↦ inl mine
+    | inr later ↦
+        let now_by = after next people before some others false true so_far told.0 told'.0 in
+        inr (stays_chosen people (next ∷ before) some (next ∷ others) marks now free left now_by told.1 told'.1 (omega (arith, room)) later)
+  ]
+  stays_chosen (next ∷ people) before some others (false ∷ marks) (false ∷ now) zero zero so_far told told' room here =
+      stays_chosen people (next ∷ before) some others marks now zero zero (after next people before some others false false so_far told.0 told'.0) told.1 told'.1 (omega (arith, room)) here
+  stays_chosen (next ∷ people) before some others (false ∷ marks) (false ∷ now) zero (suc left) so_far told told' room here =
+      let near = close before some others so_far.first so_far.second in
+      inr (stays_chosen people (next ∷ before) some others marks now zero left (after next people before some others false false so_far told.0 told'.0) told.1 told'.1 (omega arith) here)
+  stays_chosen (next ∷ people) before some others (false ∷ marks) (false ∷ now) (suc free) zero so_far told told' room here = elim here [
+    | inl mine ↦ absurd (
+        let distinct = subst (λ (p : Person). AreDistinct (p ∷ before)) (sym mine) (first_new next people before so_far.new) in
+        omega (arith, not_marked before some others distinct so_far.first so_far.second (subst (λ (p : Person). IsRaise two others p false) (sym mine) told'.0), room))
+    | inr later ↦
+        let near = close before some others so_far.first so_far.second in
+        stays_chosen people (next ∷ before) some others marks now free zero (after next people before some others false false so_far told.0 told'.0) told.1 told'.1 (omega (arith, room)) later
+  ]
+  stays_chosen (next ∷ people) before some others (false ∷ marks) (false ∷ now) (suc free) (suc left) so_far told told' room here = elim here [
+    | inl mine ↦ inl mine
+    | inr later ↦
+        let now_by = after next people before some others false false so_far told.0 told'.0 in
+        inr (stays_chosen people (next ∷ before) some others marks now free left now_by told.1 told'.1 (omega (arith, room)) later)
+  ]
 
 nobody_marked : (protections : Protections) → AreMarkedSoFar protections [] []
 nobody_marked protections = record { among = tt; can = placed_nobody protections; was = honoured_placed protections [] (placed_nobody protections) }
@@ -306,13 +293,13 @@ one_more_keeps_its_holders one_choice marks_by_hand by_hand step more chosen oth
     let marks = marks_by_hand step has.is_step in
     let now = marks_by_hand more has.more_is_step in
     let told' : AreMarkedByHand more.protections [] step.people now.0 = subst (λ (l : List Person). AreMarkedByHand more.protections [] l now.0) has.people now.1 in
-    let new = nobody_new step.people has.is_step.people.distinct in
+    let new : AreToCome step.people [] = record { apart = apart_from_nobody step.people; distinct = has.is_step.people.distinct; were = tt } in
     let mine = one_choice step chosen (kept step.people (filled_up marks.0 (step.seats - marked marks.0))) has.is_step choice (by_hand step marks.0 has.is_step marks.1) in
     let his = one_choice more (kept more.people (filled_up now.0 (more.seats - marked now.0))) others has.more_is_step (by_hand more now.0 has.more_is_step now.1) more_choice in
     let first = all_marked step.protections step.people [] [] marks.0 new (nobody_marked step.protections) marks.1 in
     let second = all_marked more.protections step.people [] [] now.0 new (nobody_marked more.protections) told' in
     let little = little_more step.protections more.protections t has.one_more has.others (onto step.people []) (marked marks.0) second.reached.0
     (subst (λ n. IsHonoured step.protections (onto step.people []) n) (omega arith) first) second.reached.1 in
-    let there = stays_chosen step.protections more.protections t has.one_more has.others person holds step.people [] [] [] marks.0 now.0 (step.seats - marked marks.0) (more.seats - marked now.0) new
-    (nobody_marked step.protections) (nobody_marked more.protections) marks.1 told' (omega (arith, little)) (subst (λ l. IsAmong person l) mine here) in
+    let there = stays_chosen step.protections more.protections t has.one_more has.others person holds step.people [] [] [] marks.0 now.0 (step.seats - marked marks.0) (more.seats - marked now.0)
+    (record { new = new; first = nobody_marked step.protections; second = nobody_marked more.protections }) marks.1 told' (omega (arith, little)) (subst (λ l. IsAmong person l) mine here) in
     subst (λ l. IsAmong person l) his (subst (λ (l : List Person). IsAmong person (kept l (filled_up now.0 (more.seats - marked now.0)))) (sym has.people) there)

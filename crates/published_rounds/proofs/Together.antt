@@ -1,7 +1,7 @@
 -- No group gains together (Hatfield and Kojima 2009). Those who would gain cut their lists before their seats, and take them back one by one.
 use Rattle.std.proofs.Common.{◌≡◌, ◌<◌, ◌≤◌, ◌+◌, ◌⊎◌, ◌==◌, inl, inr, ℕ, zero, suc, Bool, true, false, List, [], ◌∷◌, Option, Some, None, length, nat_lt, not, take, arith, refl, sym, ap, ◌∙◌, subst, if◌then◌else◌}
 use Rattle.std.specs.Prelude.{◌&&◌, ◌||◌, slice_get}
-use Rattle.std.proofs.lemmas.Bool.{and_from, and_parts, cases_Bool, cases_eq, cases_lt, eq-eqb, eqb-true, lt-ltb, ltb-false, ltb-true}
+use Rattle.std.proofs.lemmas.Bool.{and_cases, and_from, and_left, and_parts, and_right, cases_Bool, cases_eq, cases_lt, cond-false, cond-true, eq-eqb, eqb-true, lt-ltb, ltb-false, ltb-true, ne_eqb, not-false, not-true, not_from_false, not_from_true, or_cases, or_from, or_parts, or_right}
 use Rattle.std.proofs.lemmas.Option.{slice_get_within}
 use Rattle.office_base.proofs.Lists.{there_is}
 use Rattle.office_base.specs.declared.asks.Seat.{Seat}
@@ -16,7 +16,7 @@ use Rattle.allocations.proofs.Those.{value_at}
 use Rattle.allocations.proofs.Truthful.{with_list}
 use Rattle.published_rounds.specs.Groups.{AllGain, NoGroupGains, TellTogether}
 use Rattle.published_rounds.proofs.Counted.{AreBeside, has_seat}
-use Rattle.published_rounds.proofs.ListFronts.{AppliesBy, IsWithin, applies_by, by_applies, fronted, fronted_at, fronted_whole, front_market, front_within, length_fronted, moved, of_place, own_within, rank_at, rank_there, seat_of_place, size_at, size_there, still_listed}
+use Rattle.published_rounds.proofs.ListFronts.{AppliesBy, base, IsWithin, applies_by, by_applies, fronted, fronted_at, fronted_whole, front_market, front_within, length_fronted, moved, of_place, rank_at, rank_there, seat_of_place, size_at, size_there, still_listed}
 
 -- ---- places
 
@@ -39,38 +39,26 @@ abbrev passing : (ℕ → Bool) → ℕ → ℕ
 passing f zero = 0
 passing f (suc n) = passing f n + (if f n then 1 else 0)
 
-one_fewer : (b c : Bool) (m n : ℕ) → (b ≡ true → c ≡ true) → m ≤ n → m + (if b then 1 else 0) ≤ n + (if c then 1 else 0)
-one_fewer true true m n h le = omega (arith, le)
-one_fewer true false m n h le = absurd (let e = h refl in cc)
-one_fewer false true m n h le = omega (arith, le)
-one_fewer false false m n h le = omega (arith, le)
-
-one_gone : (b c : Bool) (m n : ℕ) → b ≡ false → c ≡ true → m ≤ n → m + (if b then 1 else 0) < n + (if c then 1 else 0)
-one_gone true c m n e f le = absurd (cc)
-one_gone false true m n e f le = omega (arith, le)
-one_gone false false m n e f le = absurd (cc)
-
-passing_le : (f g : ℕ → Bool) (n : ℕ) → ((i : ℕ) → f i ≡ true → g i ≡ true) → passing f n ≤ passing g n
-passing_le f g zero each = omega arith
-passing_le f g (suc n) each = one_fewer (f n) (g n) _ _ (each n) (passing_le f g n each)
-
-passing_less : (f g : ℕ → Bool) (n r : ℕ) → ((i : ℕ) → f i ≡ true → g i ≡ true) → r < n → f r ≡ false → g r ≡ true → passing f n < passing g n
-passing_less f g zero r each less e h = absurd (omega (arith, less))
-passing_less f g (suc n) r each less e h = elim (cases_lt r n) [
-  | inl before ↦
-      omega (arith, passing_less f g n r each before e h, one_fewer (f n) (g n) 0 0 (each n) (omega arith))
-  | inr last ↦
-      let same : r ≡ n = omega (arith, less, last) in
-      one_gone (f n) (g n) _ _ (subst (λ k. f k ≡ false) same e) (subst (λ k. g k ≡ true) same h) (passing_le f g n each)
-]
-
-pick_true : (b : Bool) (m n : ℕ) → b ≡ true → (if b then m else n) ≡ m
-pick_true true m n e = refl
-pick_true false m n e = absurd (cc)
-
-pick_false : (b : Bool) (m n : ℕ) → b ≡ false → (if b then m else n) ≡ n
-pick_false true m n e = absurd (cc)
-pick_false false m n e = refl
+passing_less : (f g : ℕ → Bool) (n r : ℕ) → ((i : ℕ) → f i ≡ true → g i ≡ true) → f r ≡ false → g r ≡ true → (passing f n ≤ passing g n) × (r < n → passing f n < passing g n)
+passing_less f g zero r each e h = (omega arith, λ less. omega (arith, less))
+passing_less f g (suc n) r each e h =
+    let rest = passing_less f g n r each e h in
+    let here = one_fewer (f n) (g n) (each n) in (
+      omega (arith, rest.0, here),
+      λ less. elim (cases_lt r n) [
+        | inl before ↦ let more = rest.1 before in omega (arith, more, here)
+        | inr last ↦
+            let same : r ≡ n = omega (arith, less, last) in
+            let none = cond-false {A = ℕ} (f n) 1 0 (cc) in
+            let one = cond-true {A = ℕ} (g n) 1 0 (cc) in
+            omega (arith, rest.0, none, one)
+      ],
+    )
+  where
+    one_fewer : (b c : Bool) → (b ≡ true → c ≡ true) → (if b then 1 else 0) ≤ (if c then 1 else 0)
+    one_fewer true true h = omega arith
+    one_fewer true false h = absurd (let e = h refl in cc)
+    one_fewer false c h = omega arith
 
 abbrev is_none : Option Seat → Bool
 is_none None = true
@@ -122,10 +110,10 @@ module _ (rule : Rule) (MayApply : ℕ → List Person → Type 0) (well : Choos
   seats_whole = subst (λ l. IsFair rule count l seats) (sym all_whole) best.fair
 
   kept_cut : (back : ℕ → Bool) (i : ℕ) → cuts back i ≡ true → kept back i ≡ rank i
-  kept_cut back i e = pick_true (cuts back i) (rank i) (whole i) e
+  kept_cut back i e = cond-true (cuts back i) (rank i) (whole i) e
 
   kept_whole : (back : ℕ → Bool) (i : ℕ) → cuts back i ≡ false → kept back i ≡ whole i
-  kept_whole back i e = pick_false (cuts back i) (rank i) (whole i) e
+  kept_whole back i e = cond-false (cuts back i) (rank i) (whole i) e
 
   kept_short : (back : ℕ → Bool) (i : ℕ) → kept back i ≤ whole i
   kept_short back i = elim (cases_Bool (cuts back i)) [
@@ -196,49 +184,32 @@ module _ (rule : Rule) (MayApply : ℕ → List Person → Type 0) (well : Choos
   Holds back = (i : ℕ) (s : Seeker) (y : Option Seat) → back i ≡ true → slice_get seekers i ≡ Some s → slice_get (seated back).0 i ≡ Some y → rank_of s.list y ≡ rank i
 
   not_cut_of : (back : ℕ → Bool) (i : ℕ) → back i ≡ true → cuts back i ≡ false
-  not_cut_of back i e = by (gains i) (back i) e
-    where
-      by : (b c : Bool) → c ≡ true → (b && not c) ≡ false
-      by true true e = refl
-      by true false e = absurd (cc)
-      by false c e = refl
+  not_cut_of back i e = and_right (gains i) (not (back i)) (not_from_true (back i) e)
 
   module _ (back : ℕ → Bool) (holds : Holds back) (r : ℕ) (s : Seeker) (there : slice_get seekers r ≡ Some s) (cut : cuts back r ≡ true) (none : slice_get (seated back).0 r ≡ Some None) where
     abbrev more : ℕ → Bool
     more i = back i || (i == r)
 
     more_self : more r ≡ true
-    more_self = by (back r) (r == r) (eq-eqb r r refl)
-      where
-        by : (b c : Bool) → c ≡ true → (b || c) ≡ true
-        by true c e = refl
-        by false c e = e
+    more_self = or_right (back r) (r == r) (eq-eqb r r refl)
 
     more_means : (i : ℕ) → more i ≡ true → (back i ≡ true) ⊎ (i ≡ r)
-    more_means i e = by (back i) (i == r) e (eqb-true i r)
-      where
-        by : (b c : Bool) → (b || c) ≡ true → (c ≡ true → i ≡ r) → (b ≡ true) ⊎ (i ≡ r)
-        by true c e is = inl refl
-        by false c e is = inr (is e)
+    more_means i e = elim (or_cases (back i) (i == r) e) [
+      | inl was ↦ inl was
+      | inr is_r ↦ inr (eqb-true i r is_r)
+    ]
 
     -- who cuts after cut before
     cut_before : (i : ℕ) → cuts more i ≡ true → cuts back i ≡ true
-    cut_before i e = by (gains i) (back i) (i == r) e
-      where
-        by : (a b c : Bool) → (a && not (b || c)) ≡ true → (a && not b) ≡ true
-        by true true c e = absurd (cc)
-        by true false c e = refl
-        by false b c e = absurd (cc)
+    cut_before i e =
+        let parts = and_parts (gains i) (not (more i)) e in
+        and_from (gains i) (not (back i)) parts.0 (not_from_false (back i) (or_parts (back i) (i == r) (not-true (more i) parts.1)).0)
 
     -- and who cut before, and is another, cuts after
     cut_after : (i : ℕ) → cuts back i ≡ true → (i ≡ r → ⊥) → cuts more i ≡ true
-    cut_after i e apart = by (gains i) (back i) (i == r) e (λ f. apart (eqb-true i r f))
-      where
-        by : (a b c : Bool) → (a && not b) ≡ true → (c ≡ true → ⊥) → (a && not (b || c)) ≡ true
-        by true true c e f = absurd (cc)
-        by true false true e f = absurd (f refl)
-        by true false false e f = refl
-        by false b c e f = absurd (cc)
+    cut_after i e apart =
+        let parts = and_parts (gains i) (not (back i)) e in
+        and_from (gains i) (not (more i)) parts.0 (not_from_false (more i) (or_from (back i) (i == r) (not-true (back i) parts.1) (ne_eqb i r apart)))
 
     longer : (i : ℕ) → kept back i ≤ kept more i
     longer i = elim (cases_Bool (cuts more i)) [
@@ -258,8 +229,6 @@ module _ (rule : Rule) (MayApply : ℕ → List Person → Type 0) (well : Choos
               | inr not_cut ↦ let e = kept_whole back i not_cut in let le = kept_short more i in wider (kept more i) (kept back i) t y (omega (arith, e, le)) mine
               | inl is_cut ↦ elim (cases_eq i r) [
                 | inl same ↦
-                    let at : slice_get seekers r ≡ Some t = subst (λ n. slice_get seekers n ≡ Some t) same there' in
-                    let at' : slice_get (seated more).0 r ≡ Some y = subst (λ n. slice_get (seated more).0 n ≡ Some y) same has' in
                     let one : s ≡ t = cc in
                     let two : Some w ≡ y = cc in
                     let on = (front_within rule MayApply well count seekers market (kept more) (seated more).0 r s (Some w) (seated more).1.fair there has).1 in
@@ -288,10 +257,9 @@ module _ (rule : Rule) (MayApply : ℕ → List Person → Type 0) (well : Choos
     still_holds : Holds more
     still_holds i t y is_back there' has = elim (more_means i is_back) [
       | inr same ↦
-          let at : slice_get seekers r ≡ Some t = subst (λ n. slice_get seekers n ≡ Some t) same there' in
-          let at' : slice_get (seated more).0 r ≡ Some y = subst (λ n. slice_get (seated more).0 n ≡ Some y) same has in
           let one : s ≡ t = cc in
-          subst (λ n. rank_of t.list y ≡ rank n) (sym same) (subst (λ (z : Seeker). rank_of z.list y ≡ rank r) one (exactly y at'))
+          let e = exactly y (cc) in
+          cc
       | inl was ↦
           let before = value_at seekers (seated back).0 i t (full_seated back) there' in
           let mine = front_within rule MayApply well count seekers market (kept more) (seated more).0 i t y (seated more).1.fair there' has in
@@ -304,18 +272,10 @@ module _ (rule : Rule) (MayApply : ℕ → List Person → Type 0) (well : Choos
 
     module _ (last : (i : ℕ) → i < many → cuts more i ≡ false) where
       taken_back : (i : ℕ) (t : Seeker) → slice_get seekers i ≡ Some t → gains i ≡ true → more i ≡ true
-      taken_back i t there' e = by (gains i) (more i) e (last i (slice_get_within seekers i t there'))
-        where
-          by : (a b : Bool) → a ≡ true → (a && not b) ≡ false → b ≡ true
-          by true true e f = refl
-          by true false e f = absurd (cc)
-          by false b e f = absurd (cc)
-
-      front_is : (i : ℕ) (a : Seeker) → slice_get (fronted (kept back) seekers) i ≡ Some a → (t : Seeker) × (slice_get seekers i ≡ Some t) × (a ≡ with_list t (take (kept back i) t.list))
-      front_is i a at =
-          let t = value_at (fronted (kept back) seekers) seekers i a (sym (length_fronted (kept back) seekers)) at in
-          let here = fronted_at (kept back) seekers i t.0 t.1 in
-          (t.0, t.1, (let same : Some a ≡ Some (with_list t.0 (take (kept back i) t.0.list)) = sym at ∙ here in cc))
+      taken_back i t there' e = elim (and_cases (gains i) (not (more i)) (last i (slice_get_within seekers i t there'))) [
+        | inl gone ↦ absurd (cc)
+        | inr taken ↦ not-false (more i) taken
+      ]
 
       -- who gains applied for the seat of the others
       moving : (i : ℕ) (t : Seeker) (y other : Option Seat) → gains i ≡ true → slice_get seekers i ≡ Some t → slice_get (seated back).0 i ≡ Some y → slice_get others i ≡ Some other
@@ -335,7 +295,6 @@ module _ (rule : Rule) (MayApply : ℕ → List Person → Type 0) (well : Choos
                   let g = holds i t y was there' has in
                   record { before = omega (arith, less, same, le, f); on = omega (arith, less, same, le, size); within = omega (arith, less, same, g) }
               | inr is_r ↦
-                  let at' : slice_get (seated back).0 r ≡ Some y = subst (λ n. slice_get (seated back).0 n ≡ Some y) is_r has in
                   let gone : None ≡ y = cc in
                   let f : kept back i ≡ rank i = subst (λ n. kept back n ≡ rank n) (sym is_r) (kept_cut back r cut) in
                   let g : length t.list ≡ rank_of t.list y = ap (λ o. rank_of t.list o) gone in
@@ -356,12 +315,8 @@ module _ (rule : Rule) (MayApply : ℕ → List Person → Type 0) (well : Choos
             | inr out ↦ out
           ] in
           let list = together.others i t u out there' at in
-          let worse = no_worse back i t y (by (gains i) (back i) e) there' has in
+          let worse = no_worse back i t y (and_left (gains i) (not (back i)) e) there' has in
           subst (λ l. applies p l other ≡ true) (sym list) (applies_true p t.list other a.on (omega (arith, worse, past, same)))
-        where
-          by : (b c : Bool) → b ≡ false → (b && not c) ≡ false
-          by true c e = absurd (cc)
-          by false c e = refl
 
       beside : AreBeside rule count (fronted (kept back) seekers) told (seated back).0 others gains
       beside = record {
@@ -369,16 +324,16 @@ module _ (rule : Rule) (MayApply : ℕ → List Person → Type 0) (well : Choos
         told_fair = fair';
         same = together.same ∙ sym (length_fronted (kept back) seekers);
         persons = λ i a u at at'.
-            let t = front_is i a at in
-            ap (λ (z : Seeker). z.person) t.2 ∙ together.persons i t.0 u t.1 at';
+            let t = base rule MayApply well count seekers market (kept back) i a at in
+            let e = together.persons i t.s u t.there at' in
+            cc (t.is);
         moving = λ i a y other e at has has'.
-            let t = front_is i a at in
-            let m = moving i t.0 y other e t.1 has has' in
-            (m.0, m.1, subst (λ (z : Seeker). applies m.0.prog.0 z.list y ≡ true) (sym t.2) (by_applies (kept back i) t.0.list m.0.prog.0 y m.2));
+            let t = base rule MayApply well count seekers market (kept back) i a at in
+            let m = moving i t.s y other e t.there has has' in
+            (m.0, m.1, subst (λ (z : Seeker). applies m.0.prog.0 z.list y ≡ true) (sym t.is) (by_applies (kept back i) t.s.list m.0.prog.0 y m.2));
         staying = λ i p a u y other e at at' has has' h.
-            let t = front_is i a at in
-            let own = own_within (kept back i) t.0.list y (front_within rule MayApply well count seekers market (kept back) (seated back).0 i t.0 y (seated back).1.fair t.1 has) in
-            staying i p t.0 u y other e t.1 at' has has' (applies_by (kept back i) t.0.list p y own (subst (λ (z : Seeker). applies p z.list y ≡ true) t.2 h));
+            let t = base rule MayApply well count seekers market (kept back) i a at in
+            staying i p t.s u y other e t.there at' has has' (applies_by (kept back i) t.s.list p y (subst (λ (z : Seeker). applies p z.list y ≡ true) t.is h));
       }
 
       no_last : ⊥
@@ -390,7 +345,7 @@ module _ (rule : Rule) (MayApply : ℕ → List Person → Type 0) (well : Choos
 
   none_left : (fuel : ℕ) (back : ℕ → Bool) (j : ℕ) → passing (cuts back) many ≤ fuel → Holds back → j < many → cuts back j ≡ true → ⊥
   none_left zero back j few holds less cut =
-      omega (arith, few, passing_less (λ i. false) (cuts back) many j (λ i e. absurd (cc)) less refl cut)
+      omega (arith, few, (passing_less (λ i. false) (cuts back) many j (λ i e. absurd (cc)) refl cut).1 less)
   none_left (suc fuel) back j few holds less cut = elim (search_places (λ i. cuts back i && is_none (seat_of_place (seated back).0 i)) many) [
     | inr all ↦
         let s = there_is seekers j less in
@@ -403,8 +358,7 @@ module _ (rule : Rule) (MayApply : ℕ → List Person → Type 0) (well : Choos
         let y = value_at seekers (seated back).0 r s.0 (full_seated back) s.1 in
         let none : slice_get (seated back).0 r ≡ Some None = y.1 ∙ ap Some (nothing y.0 (subst (λ o. is_none o ≡ true) (of_place (seated back).0 r y.0 y.1) parts.1)) in
         let next : ℕ → Bool = λ i. back i || (i == r) in
-        let fewer = passing_less (cuts next) (cuts back) many r (cut_before back holds r s.0 s.1 parts.0 none) found.1
-        (not_cut_of next r (more_self back holds r s.0 s.1 parts.0 none)) parts.0 in
+        let fewer = (passing_less (cuts next) (cuts back) many r (cut_before back holds r s.0 s.1 parts.0 none) (not_cut_of next r (more_self back holds r s.0 s.1 parts.0 none)) parts.0).1 found.1 in
         elim (search_places (cuts next) many) [
           | inl other ↦ none_left fuel next other.0 (omega (arith, fewer, few)) (still_holds back holds r s.0 s.1 parts.0 none) other.1 other.2
           | inr last ↦ no_last back holds r s.0 s.1 parts.0 none last
