@@ -22,7 +22,7 @@ use Rattle.merit_choice.proofs.InMerit.{in_merit_ranks, ranked_part}
 use Rattle.merit_choice.proofs.OneByOne.{better_or_worse}
 use Rattle.allocations.specs.Market.{Seeker, applicants, applies, is_of, place_of, rank_of, seat_at, those, wants}
 use Rattle.allocations.proofs.Claims.{applicants_may}
-use Rattle.allocations.proofs.Places.{applies_true, holder_applies, one_place, place_read, seat_of, seat_same}
+use Rattle.allocations.proofs.Places.{applies_true, holder_applies, one_place, place_read, seat_of}
 use Rattle.allocations.proofs.Those.{of_those, part, same_place, those_has}
 use Rattle.programme_lists.specs.Chosen.{AreApplicants, ChoosesFrom, IsAdmitted}
 use Rattle.programme_lists.specs.Listing.{seats_filled}
@@ -111,34 +111,28 @@ module _ (well : ProgrammesChooseWell) (exists : ProgrammeChoiceExists) (one : O
   below_seat : (i p : ℕ) (s : Seeker) (step : StepKind) → slice_get seekers i ≡ Some s → slice_get seats i ≡ Some (Some (seat_at p step)) → p < count
   below_seat i p s step there has = below_of i p s there (over.fair.allocation.own i s (Some (seat_at p step)) there has)
 
-  -- who wants a programme more than their seat applied to it
-  applied : (i p : ℕ) (s : Seeker) (seat : Option Seat) → slice_get seekers i ≡ Some s → slice_get seats i ≡ Some seat → place_of s.list p < length s.list
-      → place_of s.list p < rank_of s.list seat → IsAmong s.person (all p)
-  applied i p s seat there has less later = those_has (λ s o. applies p s.list o) seekers seats i s seat there has (applies_true p s.list seat less (omega (arith, later)))
-
-  -- and it does not admit them
-  not_admitted : (i p : ℕ) (s : Seeker) (seat : Option Seat) (below : p < count) → slice_get seekers i ≡ Some s → slice_get seats i ≡ Some seat
-      → place_of s.list p < rank_of s.list seat → IsAdmitted (chosen p below).admissions s.person → ⊥
-  not_admitted i p s seat below there has later under =
-      let got = (chosen p below).seated i s under.0 there under.1 in
-      let mine : seat ≡ Some (seat_at p under.0) = (let e = has in cc) in
-      let rank : rank_of s.list seat ≡ place_of s.list p = ap (λ z. rank_of s.list z) mine in
-      omega (arith, later, rank)
+  -- who wants a programme more than their seat applied to it, and it does not admit them
+  no_later : (p i : ℕ) (s : Seeker) (seat : Option Seat) → slice_get seekers i ≡ Some s → slice_get seats i ≡ Some seat → place_of s.list p < length s.list
+      → ((below : p < count) → IsAmong s.person (all p) → IsAdmitted (chosen p below).admissions s.person) → rank_of s.list seat ≤ place_of s.list p
+  no_later p i s seat there has less admits = elim (cases_lt (place_of s.list p) (rank_of s.list seat)) [
+    | inr le ↦ le
+    | inl later ↦
+        let below = below_of i p s there less in
+        let under = admits below (those_has (λ s o. applies p s.list o) seekers seats i s seat there has (applies_true p s.list seat less (omega (arith, later)))) in
+        let got = (chosen p below).seated i s under.0 there under.1 in
+        let mine : seat ≡ Some (seat_at p under.0) = cc in
+        omega (arith, later, ap (λ z. rank_of s.list z) mine)
+  ]
 
   -- so nobody better is passed over
   pub not_envied : NobodyIsPassedOver → (p i j : ℕ) (step : StepKind) (better worse : Seeker) (seat : Option Seat) → slice_get seekers i ≡ Some better → slice_get seats i ≡ Some seat
       → slice_get seekers j ≡ Some worse → slice_get seats j ≡ Some (Some (seat_at p step)) → place_of better.list p < length better.list
       → IsBetter (list_in table p) better.person worse.person → MayStandFor (list_in table p) step better.person → HoldsEachTraitOf better.person worse.person
       → rank_of better.list seat ≤ place_of better.list p
-  not_envied passes p i j step better worse seat there has there' has' less ahead may holds = elim (cases_lt (place_of better.list p) (rank_of better.list seat)) [
-    | inr le ↦ le
-    | inl later ↦ absurd (
-        let below = below_of i p better there less in
-        let c = chosen p below in
-        not_admitted i p better seat below there has later
-        (passes version (seats_in table p) (all p) c.admissions better.person worse.person step (over.are_seats.sound p below) (together p below) c.choice
-        (applied i p better seat there has less later) (c.admitted j worse step there' has') ahead may holds))
-  ]
+  not_envied passes p i j step better worse seat there has there' has' less ahead may holds = no_later p i better seat there has less (λ below mine.
+      let c = chosen p below in
+      passes version (seats_in table p) (all p) c.admissions better.person worse.person step (over.are_seats.sound p below) (together p below) c.choice mine
+      (c.admitted j worse step there' has') ahead may holds)
 
   -- ---- seats of a step
 
@@ -216,49 +210,34 @@ module _ (well : ProgrammesChooseWell) (exists : ProgrammeChoiceExists) (one : O
 
   pub not_wasted : EmptySeatsRefuseNobody → (p i : ℕ) (step : StepKind) (s : Seeker) (seat : Option Seat) → HasSeatLeft version table p seats step → slice_get seekers i ≡ Some s
       → slice_get seats i ≡ Some seat → place_of s.list p < length s.list → MayStandFor (list_in table p) step s.person → rank_of s.list seat ≤ place_of s.list p
-  not_wasted empty p i step s seat left there has less may = elim (cases_lt (place_of s.list p) (rank_of s.list seat)) [
-    | inr le ↦ le
-    | inl later ↦ absurd (
-        let below = below_of i p s there less in
-        let c = chosen p below in
-        not_admitted i p s seat below there has later
-        (empty version (seats_in table p) (all p) c.admissions s.person step (over.are_seats.sound p below) (together p below) c.choice (admits_fewer p below step left)
-        (applied i p s seat there has less later) may))
-  ]
+  not_wasted empty p i step s seat left there has less may = no_later p i s seat there has less (λ below mine.
+      let c = chosen p below in
+      empty version (seats_in table p) (all p) c.admissions s.person step (over.are_seats.sound p below) (together p below) c.choice (admits_fewer p below step left) mine may)
 
   -- ---- closing places
 
   -- whom a programme is open to has a seat of it, or an earlier one
   open_gives : NobodyIsPassedOver → (p i : ℕ) (s : Seeker) (seat : Option Seat) → slice_get seekers i ≡ Some s → slice_get seats i ≡ Some seat → place_of s.list p < length s.list
       → IsOpenTo table seekers seats p s.person → rank_of s.list seat ≤ place_of s.list p
-  open_gives passes p i s seat there has less is_open = elim (cases_lt (place_of s.list p) (rank_of s.list seat)) [
-    | inr le ↦ le
-    | inl later ↦ absurd (
-        let below = below_of i p s there less in
-        let c = chosen p below in
-        let holder = is_open.holder in
-        let admitted = c.admitted is_open.place holder is_open.step is_open.there is_open.holds in
-        let among = (well version table over.are_seats).among p (all p) holder.person is_open.step (together p below) (c.admissions, c.choice, admitted) in
-        let mine = applied i p s seat there has less later in
-        let order = in_merit_ranks (list_in table p) (all p) (together p below) in
-        elim (cases_Bool (s.person.id.0 == holder.person.id.0)) [
-          | inl is_same ↦
-              let id : s.person.id ≡ holder.person.id = same_cand s.person.id holder.person.id (eqb-true _ _ is_same) in
-              let place = same_place seekers i is_open.place s holder over.market.ids there is_open.there id in
-              let own : slice_get seats i ≡ Some (Some (seat_at p is_open.step)) = subst (λ n. slice_get seats n ≡ Some (Some (seat_at p is_open.step))) (sym place) is_open.holds in
-              let given : seat ≡ Some (seat_at p is_open.step) = (let e = has in cc) in
-              let rank : rank_of s.list seat ≡ place_of s.list p = ap (λ z. rank_of s.list z) given in
-              omega (arith, later, rank)
-          | inr apart ↦
-              elim (better_or_worse (list_in table p) (in_merit (list_in table p) (all p)) s.person holder.person order.0.in_order (widen s.person (all p) _ order.1 mine)
-              (widen holder.person (all p) _ order.1 among) (λ id. let yes = eq-eqb s.person.id.0 holder.person.id.0 (ap (λ (c : CandId). c.0) id) in cc)) [
-                | inl better ↦ not_admitted i p s seat below there has later
-                    (passes version (seats_in table p) (all p) c.admissions s.person holder.person is_open.step (over.are_seats.sound p below) (together p below) c.choice
-                    mine admitted better is_open.may is_open.traits)
-                | inr worse ↦ is_open.not_better worse
-              ]
-        ])
-  ]
+  open_gives passes p i s seat there has less is_open = no_later p i s seat there has less (λ below mine.
+      let c = chosen p below in
+      let holder = is_open.holder in
+      let admitted = c.admitted is_open.place holder is_open.step is_open.there is_open.holds in
+      let among = (well version table over.are_seats).among p (all p) holder.person is_open.step (together p below) (c.admissions, c.choice, admitted) in
+      let order = in_merit_ranks (list_in table p) (all p) (together p below) in
+      elim (cases_Bool (s.person.id.0 == holder.person.id.0)) [
+        | inl is_same ↦
+            let id : s.person.id ≡ holder.person.id = same_cand s.person.id holder.person.id (eqb-true _ _ is_same) in
+            let place = same_place seekers i is_open.place s holder over.market.ids there is_open.there id in
+            (is_open.step, c.admitted i s is_open.step there (subst (λ n. slice_get seats n ≡ Some (Some (seat_at p is_open.step))) (sym place) is_open.holds))
+        | inr apart ↦
+            elim (better_or_worse (list_in table p) (in_merit (list_in table p) (all p)) s.person holder.person order.0.in_order (widen s.person (all p) _ order.1 mine)
+            (widen holder.person (all p) _ order.1 among) (λ id. let yes = eq-eqb s.person.id.0 holder.person.id.0 (ap (λ (c : CandId). c.0) id) in cc)) [
+              | inl better ↦ passes version (seats_in table p) (all p) c.admissions s.person holder.person is_open.step (over.are_seats.sound p below) (together p below) c.choice
+                  mine admitted better is_open.may is_open.traits
+              | inr worse ↦ absurd (is_open.not_better worse)
+            ]
+      ])
 
   -- a programme is open to whoever holds a seat of it
   open_to_holder : AdmittedMayStand → (p i : ℕ) (s : Seeker) (step : StepKind) → slice_get seekers i ≡ Some s → slice_get seats i ≡ Some (Some (seat_at p step))
@@ -279,7 +258,7 @@ module _ (well : ProgrammesChooseWell) (exists : ProgrammeChoiceExists) (one : O
 
   pub is_decided : NobodyIsPassedOver → AdmittedMayStand → (i : ℕ) (s : Seeker) (seat : Option Seat) → slice_get seekers i ≡ Some s → slice_get seats i ≡ Some seat
       → IsDecided table seekers seats s seat
-  is_decided passes stands i s seat there has = record { seated = λ prog. (is_first prog, has_first prog); unseated = (none_open, λ none. unseated seat has none) }
+  is_decided passes stands i s seat there has = record { seated = λ prog. (is_first prog, has_seat prog seat has); unseated = (none_open, λ none. unseated seat has none) }
     where
       is_first : (prog : ℕ) → is_of prog seat ≡ true → IsFirstOpen table seekers seats s prog
       is_first prog of_it =
@@ -305,22 +284,17 @@ module _ (well : ProgrammesChooseWell) (exists : ProgrammeChoiceExists) (one : O
       has_seat prog (Some x) at first =
           let less = ltb-true _ _ first.wanted in
           let rank : place_of s.list x.prog.0 ≤ place_of s.list prog = open_gives passes prog i s (Some x) there at less first.is_open in
-          let is_at : slice_get seats i ≡ Some (Some (seat_at x.prog.0 x.step)) = at ∙ ap (λ z. Some (Some z)) (seat_same x (seat_at x.prog.0 x.step) refl refl) in
-          let mine = open_to_holder stands x.prog.0 i s x.step there is_at in
+          let mine = open_to_holder stands x.prog.0 i s x.step there at in
           elim (cases_lt (place_of s.list x.prog.0) (place_of s.list prog)) [
             | inr le ↦ eq-eqb x.prog.0 prog (sym (one_place s.list prog x.prog.0 less (omega (arith, le, rank))))
             | inl before ↦ absurd (first.none_before x.prog.0 before mine)
           ]
 
-      has_first : (prog : ℕ) → IsFirstOpen table seekers seats s prog → is_of prog seat ≡ true
-      has_first prog first = has_seat prog seat has first
-
       unseated : (x : Option Seat) → slice_get seats i ≡ Some x → ((prog : ℕ) → wants prog s.list ≡ true → IsOpenTo table seekers seats prog s.person → ⊥) → x ≡ None
       unseated None at none = refl
       unseated (Some x) at none = absurd (
-          let is_at : slice_get seats i ≡ Some (Some (seat_at x.prog.0 x.step)) = at ∙ ap (λ z. Some (Some z)) (seat_same x (seat_at x.prog.0 x.step) refl refl) in
           let own : place_of s.list x.prog.0 < length s.list = over.fair.allocation.own i s (Some x) there at in
-          none x.prog.0 (lt-ltb _ _ own) (open_to_holder stands x.prog.0 i s x.step there is_at))
+          none x.prog.0 (lt-ltb _ _ own) (open_to_holder stands x.prog.0 i s x.step there at))
 
 -- ---- the laws
 
