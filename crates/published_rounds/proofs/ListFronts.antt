@@ -62,6 +62,10 @@ pub within_own : (n : ℕ) (list : List ProgId) (seat : Option Seat) → IsOwn (
 within_own n list None own = tt
 within_own n list (Some y) own = let at = on_front n list y.prog.0 own in (at.before, at.on)
 
+pub wider : (n m : ℕ) (list : List ProgId) (seat : Option Seat) → n ≤ m → IsWithin n list seat → IsWithin m list seat
+wider n m list None le at = tt
+wider n m list (Some y) le at = (omega (arith, at.0, le), at.1)
+
 pub own_within : (n : ℕ) (list : List ProgId) (seat : Option Seat) → IsWithin n list seat → IsOwn (take n list) seat
 own_within n list None at = tt
 own_within n list (Some y) at = front_on n list y.prog.0 at.0 at.1
@@ -152,41 +156,41 @@ still_seated rule more MayApply count p i seekers next seats others s t kind mar
     let seat = (fair'.agrees p i t fewer.0 below there').0 fewer.1 in
     cc
 
+-- the seeker of a front
+pub record Base (seekers : List Seeker) (k : ℕ → ℕ) (i : ℕ) (t : Seeker) : Type 0 where
+  pub s : Seeker
+  pub there : slice_get seekers i ≡ Some s
+  pub is : t ≡ with_list s (take (k i) s.list)
+
+pub base : (seekers : List Seeker) (k : ℕ → ℕ) (i : ℕ) (t : Seeker) → slice_get (fronted k seekers) i ≡ Some t → Base seekers k i t
+base seekers k i t at =
+    let s = value_at (fronted k seekers) seekers i t (sym (length_fronted k seekers)) at in
+    let here = fronted_at k seekers i s.0 s.1 in
+    record { s = s.0; there = s.1; is = (cc) }
+
+-- fair seats by fronts are of the front
+pub front_within : (rule : Rule) (count : ℕ) (seekers : List Seeker) (k : ℕ → ℕ) (seats : List (Option Seat)) (i : ℕ) (s : Seeker) (seat : Option Seat) → IsFair rule count (fronted k seekers) seats
+    → slice_get seekers i ≡ Some s → slice_get seats i ≡ Some seat → IsWithin (k i) s.list seat
+front_within rule count seekers k seats i s seat fair there has =
+    within_own (k i) s.list seat (fair.allocation.own i (with_list s (take (k i) s.list)) seat (fronted_at k seekers i s there) has)
+
 module _ (rule : Rule) (MayApply : ℕ → List Person → Type 0) (well : ChoosesWell rule MayApply) (count : ℕ) (seekers : List Seeker) (market : IsMarket MayApply count seekers) where
-  -- the seeker of a front
-  pub record Base (k : ℕ → ℕ) (i : ℕ) (t : Seeker) : Type 0 where
-    pub s : Seeker
-    pub there : slice_get seekers i ≡ Some s
-    pub is : t ≡ with_list s (take (k i) s.list)
-
-  pub base : (k : ℕ → ℕ) (i : ℕ) (t : Seeker) → slice_get (fronted k seekers) i ≡ Some t → Base k i t
-  base k i t at =
-      let s = value_at (fronted k seekers) seekers i t (sym (length_fronted k seekers)) at in
-      let here = fronted_at k seekers i s.0 s.1 in
-      record { s = s.0; there = s.1; is = (let same : Some t ≡ Some (with_list s.0 (take (k i) s.0.list)) = sym at ∙ here in cc) }
-
   -- fronts are a market
   pub front_market : (k : ℕ → ℕ) → IsMarket MayApply count (fronted k seekers)
   front_market k = narrows_market rule MayApply well count seekers (fronted k seekers) market (record {
     same = length_fronted k seekers;
-    persons = λ i s t there at. let b = base k i t at in cc (b.there, b.is);
+    persons = λ i s t there at. let b = base seekers k i t at in cc (b.there, b.is);
     distinct = λ i j t q at get.
-        let b = base k i t at in
+        let b = base seekers k i t at in
         let get' = subst (λ (z : Seeker). slice_get z.list j ≡ Some q) b.is get in
         let place = front_distinct (k i) b.s.list (λ j q at. market.distinct i j b.s q b.there at) j q get' in
         subst (λ (z : Seeker). place_of z.list q.0 ≡ j) (sym b.is) place;
     narrowed = λ p i s t there at less.
-        let b = base k i t at in
+        let b = base seekers k i t at in
         let same : b.s ≡ s = cc (b.there) in
         subst (λ (z : Seeker). place_of z.list p < length z.list) same
         (on_front (k i) b.s.list p (subst (λ (z : Seeker). place_of z.list p < length z.list) b.is less)).on;
   })
-
-  -- fair seats by fronts are of the front
-  pub front_within : (k : ℕ → ℕ) (seats : List (Option Seat)) (i : ℕ) (s : Seeker) (seat : Option Seat) → IsFair rule count (fronted k seekers) seats → slice_get seekers i ≡ Some s
-      → slice_get seats i ≡ Some seat → IsWithin (k i) s.list seat
-  front_within k seats i s seat fair there has =
-      within_own (k i) s.list seat (fair.allocation.own i (with_list s (take (k i) s.list)) seat (fronted_at k seekers i s there) has)
 
   -- fair seats by fronts are fair by others that hold them, where nobody applies to more
   pub moved : (k m : ℕ → ℕ) (seats : List (Option Seat)) → IsFair rule count (fronted k seekers) seats
@@ -195,13 +199,13 @@ module _ (rule : Rule) (MayApply : ℕ → List Person → Type 0) (well : Choos
       → IsFair rule count (fronted m seekers) seats
   moved k m seats fair own narrow =
       still_fair rule MayApply well count (fronted k seekers) (fronted m seekers) (front_market k) seats (length_fronted m seekers ∙ sym (length_fronted k seekers))
-      (λ i a b at at'. let c = base k i a at in let d = base m i b at' in cc (c.there, c.is, d.there, d.is))
+      (λ i a b at at'. let c = base seekers k i a at in let d = base seekers m i b at' in cc (c.there, c.is, d.there, d.is))
       (λ i a b at at' seat has.
-      let d = base m i b at' in
+      let d = base seekers m i b at' in
       subst (λ (z : Seeker). IsOwn z.list seat) (sym d.is) (own_within (m i) d.s.list seat (own i d.s seat d.there has)))
       (λ i a b at at' p seat has h.
-      let c = base k i a at in
-      let d = base m i b at' in
+      let c = base seekers k i a at in
+      let d = base seekers m i b at' in
       let by = applies_by (m i) d.s.list p seat (subst (λ (z : Seeker). applies p z.list seat ≡ true) d.is h) in
       let still = by_applies (k i) d.s.list p seat (record { before = narrow i p d.s seat d.there has by; on = by.on; within = by.within }) in
       cc (c.there, c.is, d.there))
@@ -225,12 +229,12 @@ module _ (rule more : Rule) (MayApply : ℕ → List Person → Type 0) (well : 
   narrows = record {
     same = length_fronted upto seekers ∙ sym (length_fronted m seekers);
     persons = λ i a b at at'.
-        let c = base more MayApply well count seekers market m i a at in
-        let d = base more MayApply well count seekers market upto i b at' in
+        let c = base seekers m i a at in
+        let d = base seekers upto i b at' in
         cc (c.there, c.is, d.there, d.is);
     narrowed = λ p i a b seat at at' has less.
-        let c = base more MayApply well count seekers market m i a at in
-        let d = base more MayApply well count seekers market upto i b at' in
+        let c = base seekers m i a at in
+        let d = base seekers upto i b at' in
         let is_front : b ≡ with_list c.s (take (upto i) c.s.list) = cc (c.there, d.there, d.is) in
         let on = on_front (upto i) c.s.list p (subst (λ (z : Seeker). place_of z.list p < length z.list) is_front less) in
         let before = on.before in
@@ -260,17 +264,13 @@ module _ (rule more : Rule) (MayApply : ℕ → List Person → Type 0) (well : 
 
   small_fair : IsFair more count (fronted k seekers) small.0
   small_fair = moved more MayApply well count seekers market upto k small.0 small.1.fair
-      (λ i s z there has. longer i s z (front_within more MayApply well count seekers market upto small.0 i s z small.1.fair there has))
+      (λ i s z there has. wider (upto i) (k i) s.list z (omega arith) (front_within more count seekers upto small.0 i s z small.1.fair there has))
       applied
     where
-      longer : (i : ℕ) (s : Seeker) (z : Option Seat) → IsWithin (upto i) s.list z → IsWithin (k i) s.list z
-      longer i s None at = tt
-      longer i s (Some w) at = (let before = at.0 in omega (arith, before), at.1)
-
       applied : (i p : ℕ) (s : Seeker) (z : Option Seat) → slice_get seekers i ≡ Some s → slice_get small.0 i ≡ Some z → AppliesBy (k i) s.list p z → place_of s.list p < upto i
       applied i p s None there has a = let seat = seat_there i s there in not_listed i s seat.0 there seat.1 has p a.before a.on
       applied i p s (Some w) there has a =
-          let own = front_within more MayApply well count seekers market upto small.0 i s (Some w) small.1.fair there has in
+          let own = front_within more count seekers upto small.0 i s (Some w) small.1.fair there has in
           omega arith
 
   -- so far the seats are no later
@@ -279,7 +279,7 @@ module _ (rule more : Rule) (MayApply : ℕ → List Person → Type 0) (well : 
   no_later i s None None there has at listed = omega arith
   no_later i s (Some y) None there has at listed = absurd (has_one i s y there has at listed.0)
   no_later i s seat (Some w) there has at listed =
-      let own = front_within more MayApply well count seekers market upto small.0 i s (Some w) small.1.fair there at in
+      let own = front_within more count seekers upto small.0 i s (Some w) small.1.fair there at in
       omega (arith, own.0, rank_there seekers seats i s seat there has)
 
   -- nobody who still lists their seat has a worse one by the best seats
@@ -289,8 +289,8 @@ module _ (rule more : Rule) (MayApply : ℕ → List Person → Type 0) (well : 
       let z = value_at seekers small.0 i s (small_fair.allocation.full ∙ length_fronted k seekers) there in
       let t = fronted_at k seekers i s there in
       let one = best.best small.0 small_fair i (with_list s (take (k i) s.list)) other z.0 t has' z.1 in
-      let first = front_within more MayApply well count seekers market k others i s other best.fair there has' in
-      let second = front_within more MayApply well count seekers market k small.0 i s z.0 small_fair there z.1 in
+      let first = front_within more count seekers k others i s other best.fair there has' in
+      let second = front_within more count seekers k small.0 i s z.0 small_fair there z.1 in
       omega (arith, ranks_by (k i) s.list other z.0 first second one, no_later i s seat z.0 there has z.1 listed)
 
 -- Where programmes admit whom they admitted, nobody has a worse seat by the best seats than by any fair ones before, all lists as they are.
@@ -300,10 +300,6 @@ pub more_is_no_worse : (rule more : Rule) (MayApply : ℕ → List Person → Ty
 more_is_no_worse rule more MayApply well grows count i seekers seats others s seat other market fair best there has has' =
     let all = size_at seekers in
     let same : fronted all seekers ≡ seekers = fronted_whole all seekers (λ i s there. let e = size_there seekers i s there in omega (arith, e)) in
-    let size = size_there seekers i s there in
-    still_listed rule more MayApply well grows count seekers market all all (λ i. omega arith) seats (subst (λ l. IsFair rule count l seats) (sym same) fair) others i s seat other
-    (subst (λ l. IsBest more count l others) (sym same) best) there has has' (listed (all i) s.list seat size (fair.allocation.own i s seat there has))
-  where
-    listed : (n : ℕ) (list : List ProgId) (seat : Option Seat) → n ≡ length list → IsOwn list seat → IsWithin n list seat
-    listed n list None e own = tt
-    listed n list (Some y) e own = (omega (arith, e, own), own)
+    let fair' = subst (λ l. IsFair rule count l seats) (sym same) fair in
+    still_listed rule more MayApply well grows count seekers market all all (λ i. omega arith) seats fair' others i s seat other (subst (λ l. IsBest more count l others) (sym same) best) there has has'
+    (front_within rule count seekers all seats i s seat fair' there has)

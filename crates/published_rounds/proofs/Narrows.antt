@@ -240,8 +240,7 @@ module _ (facts : SeasonFacts) (script : List Request) (papers : Papers) where
   in_turn : (i j : ℕ) → i < length script → (before facts script papers j).now ≡ (before facts script papers i).now + 1 → i < j
   in_turn i j within next = elim (cases_lt i j) [
     | inl less ↦ less
-    | inr few ↦ absurd (
-        omega (arith, later_on j (i - j) i (omega (arith, few)) (omega (arith, within)), next))
+    | inr few ↦ absurd (omega (arith, later_on j (i - j) i (omega (arith, few)) (omega (arith, within)), next))
   ]
 
 -- ---- two cuts that follow each other

@@ -1,9 +1,11 @@
 -- No group gains together (Hatfield and Kojima 2009). Those who would gain cut their lists before their seats, and take them back one by one.
-use Rattle.std.proofs.Common.{◌≡◌, ◌<◌, ◌≤◌, ◌+◌, ◌⊎◌, ◌==◌, inl, inr, ℕ, zero, suc, Bool, true, false, List, [], ◌∷◌, Option, Some, None, length, nat_lt, not, take, arith, refl, sym, ap, ◌∙◌, subst, if◌then◌else◌}
+use Rattle.std.proofs.Common.{◌≡◌, ◌<◌, ◌≤◌, ◌+◌, ◌⊎◌, ◌==◌, inl, inr, ℕ, zero, suc, Bool, true, false, List, [], ◌∷◌, Option, Some, None, length, nat_lt, not, take, arith, refl, sym, ap, ◌∙◌, subst, if◌then◌else◌, below_more}
 use Rattle.std.specs.Prelude.{◌&&◌, ◌||◌, slice_get}
-use Rattle.std.proofs.lemmas.Bool.{and_cases, and_from, and_left, and_parts, and_right, cases_Bool, cases_eq, cases_lt, cond-false, cond-true, eq-eqb, eqb-true, lt-ltb, ltb-false, ltb-true, ne_eqb, not-false, not-true, not_from_false, not_from_true, or_cases, or_from, or_parts, or_right}
+use Rattle.std.specs.Option.{is_none, is_some}
+use Rattle.std.proofs.lemmas.Bool.{false_from_ne_true, and_cases, and_from, and_left, and_parts, and_right, cases_Bool, cases_eq, cases_lt, cond-false, cond-true, eq-eqb, eqb-true, lt-ltb, ltb-false, ltb-true, ne_eqb, not-false, not-true, not_from_false, not_from_true, or_cases, or_from, or_parts, or_right}
 use Rattle.std.proofs.lemmas.Option.{slice_get_within}
 use Rattle.office_base.proofs.Lists.{there_is}
+use Rattle.office_base.proofs.Options.{none_from}
 use Rattle.office_base.specs.declared.asks.Seat.{Seat}
 use Rattle.office_base.specs.declared.person.Person.{Person}
 use Rattle.allocations.specs.Fair.{IsBest, IsFair, IsMarket}
@@ -16,7 +18,7 @@ use Rattle.allocations.proofs.Those.{value_at}
 use Rattle.allocations.proofs.Truthful.{with_list}
 use Rattle.published_rounds.specs.Groups.{AllGain, NoGroupGains, TellTogether}
 use Rattle.published_rounds.proofs.Counted.{AreBeside, has_seat}
-use Rattle.published_rounds.proofs.ListFronts.{AppliesBy, base, IsWithin, applies_by, by_applies, fronted, fronted_at, fronted_whole, front_market, front_within, length_fronted, moved, of_place, rank_at, rank_there, seat_of_place, size_at, size_there, still_listed}
+use Rattle.published_rounds.proofs.ListFronts.{AppliesBy, base, IsWithin, applies_by, by_applies, fronted, fronted_at, fronted_whole, front_market, front_within, length_fronted, moved, of_place, rank_at, rank_there, seat_of_place, wider, size_at, size_there, still_listed}
 
 -- ---- places
 
@@ -27,10 +29,7 @@ search_places f (suc n) = elim (search_places f n) [
   | inl found ↦ inl (found.0, (let less = found.1 in omega (arith, less)), found.2)
   | inr none ↦ elim (cases_Bool (f n)) [
     | inl here ↦ inl (n, omega arith, here)
-    | inr gone ↦ inr (λ i less. elim (cases_lt i n) [
-      | inl before ↦ none i before
-      | inr last ↦ let same : i ≡ n = omega (arith, less, last) in subst (λ k. f k ≡ false) (sym same) gone
-    ])
+    | inr gone ↦ inr (λ i less. below_more (λ k. f k ≡ false) n none gone i (omega (arith, less)))
   ]
 ]
 
@@ -59,10 +58,6 @@ passing_less f g (suc n) r each e h =
     one_fewer true true h = omega arith
     one_fewer true false h = absurd (let e = h refl in cc)
     one_fewer false c h = omega arith
-
-abbrev is_none : Option Seat → Bool
-is_none None = true
-is_none (Some seat) = false
 
 ranks_short : (seekers : List Seeker) (seats : List (Option Seat))
     → ((i : ℕ) (s : Seeker) (seat : Option Seat) → slice_get seekers i ≡ Some s → slice_get seats i ≡ Some seat → rank_of s.list seat ≤ length s.list)
@@ -121,10 +116,6 @@ module _ (rule : Rule) (MayApply : ℕ → List Person → Type 0) (well : Choos
     | inr not_cut ↦ let e = kept_whole back i not_cut in omega (arith, e)
   ]
 
-  wider : (n m : ℕ) (s : Seeker) (seat : Option Seat) → n ≤ m → IsWithin n s.list seat → IsWithin m s.list seat
-  wider n m s None le at = tt
-  wider n m s (Some y) le at = (let before = at.0 in omega (arith, before, le), at.1)
-
   -- the best seats by what is kept
   seated : (back : ℕ → Bool) → (small : List (Option Seat)) × IsBest rule count (fronted (kept back) seekers) small
   seated back = best_there rule MayApply count (fronted (kept back) seekers) (front_market rule MayApply well count seekers market (kept back)) well
@@ -132,15 +123,12 @@ module _ (rule : Rule) (MayApply : ℕ → List Person → Type 0) (well : Choos
   full_seated : (back : ℕ → Bool) → length (seated back).0 ≡ length seekers
   full_seated back = (seated back).1.fair.allocation.full ∙ length_fronted (kept back) seekers
 
-  within_whole : (i : ℕ) (s : Seeker) (seat : Option Seat) → slice_get seekers i ≡ Some s → slice_get seats i ≡ Some seat → IsWithin (whole i) s.list seat
-  within_whole i s seat there has = front_within rule MayApply well count seekers market whole seats i s seat seats_whole there has
-
   -- who does not cut has no worse seat than before
   no_worse : (back : ℕ → Bool) (i : ℕ) (s : Seeker) (y : Option Seat) → cuts back i ≡ false → slice_get seekers i ≡ Some s → slice_get (seated back).0 i ≡ Some y → rank_of s.list y ≤ rank i
   no_worse back i s y not_cut there has =
       let seat = seat_there i s there in
       let le = still_listed rule rule MayApply well (λ p people x may h. h) count seekers market (kept back) whole (kept_short back) seats seats_whole (seated back).0 i s seat.0 y (seated back).1 there seat.1 has
-      (wider (whole i) (kept back i) s seat.0 (omega (arith, kept_whole back i not_cut)) (within_whole i s seat.0 there seat.1)) in
+      (wider (whole i) (kept back i) s.list seat.0 (omega (arith, kept_whole back i not_cut)) (front_within rule count seekers whole seats i s seat.0 seats_whole there seat.1)) in
       omega (arith, le, rank_there seekers seats i s seat.0 there seat.1)
 
   -- ---- if all who cut have a seat, it is better than the best
@@ -148,11 +136,8 @@ module _ (rule : Rule) (MayApply : ℕ → List Person → Type 0) (well : Choos
   module _ (back : ℕ → Bool) (all : (i : ℕ) → i < many → (cuts back i && is_none (seat_of_place (seated back).0 i)) ≡ false) where
     has_one : (i : ℕ) (s : Seeker) → slice_get seekers i ≡ Some s → cuts back i ≡ true → slice_get (seated back).0 i ≡ Some None → ⊥
     has_one i s there cut none =
-        let less = slice_get_within seekers i s there in
-        let gone = all i less in
-        let is : is_none (seat_of_place (seated back).0 i) ≡ true = ap is_none (of_place (seated back).0 i None none) in
-        let both = and_from (cuts back i) (is_none (seat_of_place (seated back).0 i)) cut is in
-        cc
+        let both = and_from (cuts back i) (is_none (seat_of_place (seated back).0 i)) cut (ap is_none (of_place (seated back).0 i None none)) in
+        cc (all i (slice_get_within seekers i s there))
 
     stays : (i p : ℕ) (s : Seeker) (y : Option Seat) → slice_get seekers i ≡ Some s → slice_get (seated back).0 i ≡ Some y → AppliesBy (whole i) s.list p y → place_of s.list p < kept back i
     stays i p s None there has a = elim (cases_Bool (cuts back i)) [
@@ -160,21 +145,21 @@ module _ (rule : Rule) (MayApply : ℕ → List Person → Type 0) (well : Choos
       | inr not_cut ↦ let e = kept_whole back i not_cut in let before = a.before in omega (arith, e, before)
     ]
     stays i p s (Some y) there has a =
-        let own = front_within rule MayApply well count seekers market (kept back) (seated back).0 i s (Some y) (seated back).1.fair there has in
+        let own = front_within rule count seekers (kept back) (seated back).0 i s (Some y) (seated back).1.fair there has in
         omega arith
 
     seated_fair : IsFair rule count seekers (seated back).0
     seated_fair = subst (λ l. IsFair rule count l (seated back).0) all_whole
         (moved rule MayApply well count seekers market (kept back) whole (seated back).0 (seated back).1.fair
-        (λ i s y there has. wider (kept back i) (whole i) s y (kept_short back i)
-        (front_within rule MayApply well count seekers market (kept back) (seated back).0 i s y (seated back).1.fair there has))
+        (λ i s y there has. wider (kept back i) (whole i) s.list y (kept_short back i)
+        (front_within rule count seekers (kept back) (seated back).0 i s y (seated back).1.fair there has))
         stays)
 
     too_good : (j : ℕ) (s : Seeker) (y : Option Seat) → slice_get seekers j ≡ Some s → cuts back j ≡ true → slice_get (seated back).0 j ≡ Some y → ⊥
     too_good j s None there cut has = has_one j s there cut has
     too_good j s (Some y) there cut has =
         let seat = seat_there j s there in
-        let own = front_within rule MayApply well count seekers market (kept back) (seated back).0 j s (Some y) (seated back).1.fair there has in
+        let own = front_within rule count seekers (kept back) (seated back).0 j s (Some y) (seated back).1.fair there has in
         let le : rank_of s.list seat.0 ≤ place_of s.list y.prog.0 = best.best (seated back).0 seated_fair j s seat.0 (Some y) there seat.1 has in
         omega (arith, kept_cut back j cut, rank_there seekers seats j s seat.0 there seat.1, le)
 
@@ -224,27 +209,26 @@ module _ (rule : Rule) (MayApply : ℕ → List Person → Type 0) (well : Choos
       where
         own : (i : ℕ) (t : Seeker) (y : Option Seat) → slice_get seekers i ≡ Some t → slice_get (seated more).0 i ≡ Some y → IsWithin (kept back i) t.list y
         own i t y there' has' =
-            let mine = front_within rule MayApply well count seekers market (kept more) (seated more).0 i t y (seated more).1.fair there' has' in
+            let mine = front_within rule count seekers (kept more) (seated more).0 i t y (seated more).1.fair there' has' in
             elim (cases_Bool (cuts back i)) [
-              | inr not_cut ↦ let e = kept_whole back i not_cut in let le = kept_short more i in wider (kept more i) (kept back i) t y (omega (arith, e, le)) mine
+              | inr not_cut ↦ let e = kept_whole back i not_cut in let le = kept_short more i in wider (kept more i) (kept back i) t.list y (omega (arith, e, le)) mine
               | inl is_cut ↦ elim (cases_eq i r) [
                 | inl same ↦
                     let one : s ≡ t = cc in
                     let two : Some w ≡ y = cc in
-                    let on = (front_within rule MayApply well count seekers market (kept more) (seated more).0 r s (Some w) (seated more).1.fair there has).1 in
+                    let on = (front_within rule count seekers (kept more) (seated more).0 r s (Some w) (seated more).1.fair there has).1 in
                     let here : IsWithin (kept back r) s.list (Some w) = (omega (arith, kept_cut back r cut, before), on) in
                     subst (λ n. IsWithin (kept back n) t.list y) (sym same) (subst (λ o. IsWithin (kept back r) t.list o) two (subst (λ (z : Seeker). IsWithin (kept back r) z.list (Some w)) one here))
                 | inr apart ↦
-                    wider (kept more i) (kept back i) t y (omega (arith, kept_cut back i is_cut, kept_cut more i (cut_after i is_cut apart))) mine
+                    wider (kept more i) (kept back i) t.list y (omega (arith, kept_cut back i is_cut, kept_cut more i (cut_after i is_cut apart))) mine
               ]
             ]
 
     exactly : (y : Option Seat) → slice_get (seated more).0 r ≡ Some y → rank_of s.list y ≡ rank r
-    exactly y has =
-        elim (cases_lt (rank_of s.list y) (rank r)) [
-          | inr past ↦ omega (arith, no_worse more r s y (not_cut_of more r more_self) there has, past)
-          | inl before ↦ absurd (earlier y has before)
-        ]
+    exactly y has = elim (cases_lt (rank_of s.list y) (rank r)) [
+      | inr past ↦ omega (arith, no_worse more r s y (not_cut_of more r more_self) there has, past)
+      | inl before ↦ absurd (earlier y has before)
+    ]
       where
         earlier : (y : Option Seat) → slice_get (seated more).0 r ≡ Some y → rank_of s.list y < rank r → ⊥
         earlier None has before = let le = short r in let e = size_there seekers r s there in omega (arith, before, le, e)
@@ -262,9 +246,9 @@ module _ (rule : Rule) (MayApply : ℕ → List Person → Type 0) (well : Choos
           cc
       | inl was ↦
           let before = value_at seekers (seated back).0 i t (full_seated back) there' in
-          let mine = front_within rule MayApply well count seekers market (kept more) (seated more).0 i t y (seated more).1.fair there' has in
+          let mine = front_within rule count seekers (kept more) (seated more).0 i t y (seated more).1.fair there' has in
           let first = still_listed rule rule MayApply well (λ p people x may h. h) count seekers market (kept back) (kept more) longer (seated more).0 (seated more).1.fair (seated back).0 i t y before.0 (seated back).1 there' has before.1
-          (wider (kept more i) (kept back i) t y (omega (arith, kept_whole back i (not_cut_of back i was), kept_short more i)) mine) in
+          (wider (kept more i) (kept back i) t.list y (omega (arith, kept_whole back i (not_cut_of back i was), kept_short more i)) mine) in
           omega (arith, holds i t before.0 was there' before.1, first, no_worse more i t y (not_cut_of more i is_back) there' has)
     ]
 
@@ -280,27 +264,19 @@ module _ (rule : Rule) (MayApply : ℕ → List Person → Type 0) (well : Choos
       -- who gains applied for the seat of the others
       moving : (i : ℕ) (t : Seeker) (y other : Option Seat) → gains i ≡ true → slice_get seekers i ≡ Some t → slice_get (seated back).0 i ≡ Some y → slice_get others i ≡ Some other
           → (z : Seat) × (other ≡ Some z) × AppliesBy (kept back i) t.list z.prog.0 y
-      moving i t y None e there' has has' = absurd (
-          omega (arith, ltb-true _ _ e, rank_there seekers others i t None there' has', short i, size_there seekers i t there'))
+      moving i t y None e there' has has' = absurd (omega (arith, ltb-true _ _ e, rank_there seekers others i t None there' has', short i, size_there seekers i t there'))
       moving i t y (Some z) e there' has has' =
           let less = ltb-true _ _ e in
           let same = rank_there seekers others i t (Some z) there' has' in
           let le = short i in
-          let size = size_there seekers i t there' in (
-            z,
-            refl,
-            elim (more_means i (taken_back i t there' e)) [
-              | inl was ↦
-                  let f = kept_whole back i (not_cut_of back i was) in
-                  let g = holds i t y was there' has in
-                  record { before = omega (arith, less, same, le, f); on = omega (arith, less, same, le, size); within = omega (arith, less, same, g) }
-              | inr is_r ↦
-                  let gone : None ≡ y = cc in
-                  let f : kept back i ≡ rank i = subst (λ n. kept back n ≡ rank n) (sym is_r) (kept_cut back r cut) in
-                  let g : length t.list ≡ rank_of t.list y = ap (λ o. rank_of t.list o) gone in
-                  record { before = omega (arith, less, same, f); on = omega (arith, less, same, le, size); within = omega (arith, less, same, le, size, g) }
-            ],
-          )
+          let size = size_there seekers i t there' in
+          let room : (rank i ≤ kept back i) × (rank i ≤ rank_of t.list y) = elim (more_means i (taken_back i t there' e)) [
+            | inl was ↦ (omega (arith, le, kept_whole back i (not_cut_of back i was)), omega (arith, holds i t y was there' has))
+            | inr is_r ↦
+                let gone : None ≡ y = cc in
+                (omega (arith, kept_cut back i (cc)), omega (arith, le, size, ap (λ o. rank_of t.list o) gone))
+          ] in
+          (z, refl, record { before = omega (arith, less, same, room.0); on = omega (arith, less, same, le, size); within = omega (arith, less, same, room.1) })
 
       -- who does not gain is as the others are
       staying : (i p : ℕ) (t u : Seeker) (y other : Option Seat) → gains i ≡ false → slice_get seekers i ≡ Some t → slice_get told i ≡ Some u → slice_get (seated back).0 i ≡ Some y
@@ -310,10 +286,7 @@ module _ (rule : Rule) (MayApply : ℕ → List Person → Type 0) (well : Choos
           let same = rank_there seekers others i t other there' has' in
           let same' = rank_there seekers seats i t seat.0 there' seat.1 in
           let past = ltb-false (rank_at seekers others i) (rank i) e in
-          let out : group i ≡ false = elim (cases_Bool (group i)) [
-            | inl within ↦ absurd (let less = gain i t seat.0 other within there' seat.1 has' in omega (arith, less, same, same', past))
-            | inr out ↦ out
-          ] in
+          let out = false_from_ne_true (group i) (λ within. omega (arith, gain i t seat.0 other within there' seat.1 has', same, same', past)) in
           let list = together.others i t u out there' at in
           let worse = no_worse back i t y (and_left (gains i) (not (back i)) e) there' has in
           subst (λ l. applies p l other ≡ true) (sym list) (applies_true p t.list other a.on (omega (arith, worse, past, same)))
@@ -324,15 +297,15 @@ module _ (rule : Rule) (MayApply : ℕ → List Person → Type 0) (well : Choos
         told_fair = fair';
         same = together.same ∙ sym (length_fronted (kept back) seekers);
         persons = λ i a u at at'.
-            let t = base rule MayApply well count seekers market (kept back) i a at in
+            let t = base seekers (kept back) i a at in
             let e = together.persons i t.s u t.there at' in
             cc (t.is);
         moving = λ i a y other e at has has'.
-            let t = base rule MayApply well count seekers market (kept back) i a at in
+            let t = base seekers (kept back) i a at in
             let m = moving i t.s y other e t.there has has' in
             (m.0, m.1, subst (λ (z : Seeker). applies m.0.prog.0 z.list y ≡ true) (sym t.is) (by_applies (kept back i) t.s.list m.0.prog.0 y m.2));
         staying = λ i p a u y other e at at' has has' h.
-            let t = base rule MayApply well count seekers market (kept back) i a at in
+            let t = base seekers (kept back) i a at in
             staying i p t.s u y other e t.there at' has has' (applies_by (kept back i) t.s.list p y (subst (λ (z : Seeker). applies p z.list y ≡ true) t.is h));
       }
 
@@ -356,7 +329,7 @@ module _ (rule : Rule) (MayApply : ℕ → List Person → Type 0) (well : Choos
         let parts = and_parts (cuts back r) (is_none (seat_of_place (seated back).0 r)) found.2 in
         let s = there_is seekers r found.1 in
         let y = value_at seekers (seated back).0 r s.0 (full_seated back) s.1 in
-        let none : slice_get (seated back).0 r ≡ Some None = y.1 ∙ ap Some (nothing y.0 (subst (λ o. is_none o ≡ true) (of_place (seated back).0 r y.0 y.1) parts.1)) in
+        let none : slice_get (seated back).0 r ≡ Some None = y.1 ∙ ap Some (none_from y.0 (not-true (is_some y.0) (subst (λ o. is_none o ≡ true) (of_place (seated back).0 r y.0 y.1) parts.1))) in
         let next : ℕ → Bool = λ i. back i || (i == r) in
         let fewer = (passing_less (cuts next) (cuts back) many r (cut_before back holds r s.0 s.1 parts.0 none) (not_cut_of next r (more_self back holds r s.0 s.1 parts.0 none)) parts.0).1 found.1 in
         elim (search_places (cuts next) many) [
@@ -364,10 +337,6 @@ module _ (rule : Rule) (MayApply : ℕ → List Person → Type 0) (well : Choos
           | inr last ↦ no_last back holds r s.0 s.1 parts.0 none last
         ]
   ]
-    where
-      nothing : (y : Option Seat) → is_none y ≡ true → y ≡ None
-      nothing None e = refl
-      nothing (Some y) e = absurd (cc)
 
   not_all_gain : (i : ℕ) (s : Seeker) → group i ≡ true → slice_get seekers i ≡ Some s → ⊥
   not_all_gain i s within there =
