@@ -1,17 +1,16 @@
 -- What holds of fair seats holds of a published round.
-use Rattle.std.proofs.Common.{◌≡◌, ◌<◌, ℕ, suc, true, List, Option, Some, length, arith, sym, ap, ◌∙◌, subst}
+use Rattle.std.proofs.Common.{◌≡◌, ◌<◌, ℕ, suc, true, List, Option, Some, length, arith, sym, ap, subst}
 use Rattle.std.specs.Prelude.{slice_get, option_map}
 use Rattle.std.specs.Option.{unwrap_or}
 use Rattle.std.proofs.lemmas.Option.{slice_get_within}
-use Rattle.office_base.proofs.Lists.{at_among}
 use Rattle.office_base.specs.Person.{IsBetter}
 use Rattle.office_base.specs.declared.asks.Seat.{Seat}
 use Rattle.office_base.specs.declared.person.ListId.{ListId}
 use Rattle.office_base.specs.declared.person.Person.{Person}
 use Rattle.office_base.specs.declared.person.ProgId.{ProgId}
 use Rattle.allocations.specs.Fair.{IsNextMarket}
-use Rattle.allocations.specs.Market.{Seeker, is_of, place_of, wants}
-use Rattle.programme_laws.specs.Laws.{HoldsEachTraitOf, MayStandFor}
+use Rattle.allocations.specs.Market.{Seeker, wants}
+use Rattle.programme_laws.specs.Laws.{MayStandFor}
 use Rattle.seat_matrix.specs.Matrix.{SeatTable, first_list, list_in}
 use Rattle.seat_matrix.specs.declared.entry.Home.{Home}
 use Rattle.rounds.specs.Rule.{ProgrammesChooseWell, ProgrammesGrow}
@@ -19,15 +18,16 @@ use Rattle.rounds.specs.declared.round.Round.{Round}
 use Rattle.rounds.proofs.Entrants.{market}
 use Rattle.office_moves.specs.Facts.{IsSound, SeasonFacts, lists_in_order}
 use Rattle.office_moves.specs.Promise.{all_sought_then}
-use Rattle.office_moves.specs.State.{State}
+use Rattle.office_moves.specs.State.{State, seat_of}
 use Rattle.history_laws.proofs.Falls.{fit_all, next_market}
-use Rattle.history_laws.proofs.Fits.{enters}
 use Rattle.history_laws.specs.Course.{IsCourse}
 use Rattle.published_rounds.specs.Published.{IsThatOrEarlier, market_then, matrix_then, wanted_then}
-use Rattle.published_rounds.proofs.Places.{AreOrderly, InRound, course_of, in_round, made_then, may_enter, place_among}
-use Rattle.published_rounds.specs.Fair.{AreFairOver, IsDecided, IsFirstOpen, IsOpenTo}
-use Rattle.published_rounds.specs.FairLaws.{ClosingPlacesDecide, FewNewHolders, FewNewlySeated, NoSeatIsWasted, NoVacancyFillsByItself}
-use Rattle.published_rounds.specs.FairThen.{ClosingPlacesDecideThen, FewNewHoldersThen, FewNewlySeatedThen, IsDecidedThen, IsFirstOpenThen, IsOpenThen, NoSeatIsWastedThen, NoVacancyFillsByItselfThen}
+use Rattle.published_rounds.proofs.Places.{AreOrderly, course_of, in_round, made_then, may_enter, place_among}
+use Rattle.published_rounds.specs.Fair.{AreFairOver}
+use Rattle.published_rounds.specs.People.{IsDecidedFor, IsOpenFor, PublishedRoundsAreJustified}
+use Rattle.published_rounds.specs.Laws.{NobodyIsEnvied, SeatsAreWithin}
+use Rattle.published_rounds.specs.FairLaws.{FewNewHolders, FewNewlySeated, NoSeatIsWasted, NoVacancyFillsByItself, SeatsAreWithinWhereFair}
+use Rattle.published_rounds.specs.FairThen.{ClosingPlacesDecideThen, FewNewHoldersThen, FewNewlySeatedThen, IsDecidedThen, IsOpenThen, NoSeatIsWastedThen, NoVacancyFillsByItselfThen}
 
 module _ (facts : SeasonFacts) (state : State) (window : ℕ) (round : Round) (sound : IsSound facts) (course : IsCourse facts state) (is : slice_get state.rounds window ≡ Some round) where
   abbrev table : SeatTable
@@ -47,74 +47,55 @@ module _ (facts : SeasonFacts) (state : State) (window : ℕ) (round : Round) (s
   pub same_list : (p : ℕ) → list_in table p ≡ list_in facts.matrix p
   same_list p = ap (λ programmes. unwrap_or (option_map (λ (held : List ℕ × Home). held.1.list) (slice_get programmes p)) first_list) (course.programmes (suc window))
 
-  -- a programme is open by the people of the register exactly where it is by the seekers
-  opens : (p : ℕ) (person : Person) → IsOpenThen facts round p person → IsOpenTo table seekers round.seats p person
-  opens p person o =
-      let at = place_among facts.people o.holder o.among in
-      let w = in_round facts state window at.0 round o.holder sound course is at.1 in
-      record {
-        place = at.0;
-        holder = w.s;
-        there = w.there;
-        step = o.step;
-        holds = w.has ∙ ap Some (sym w.seat_is ∙ o.holds);
-        may = subst (λ (l : ListId). MayStandFor l o.step person) (sym (same_list p)) o.may;
-        traits = subst (λ (h : Person). HoldsEachTraitOf person h) (sym w.person_is) o.traits;
-        not_better = subst (λ (h : Person). IsBetter (list_in table p) h person → ⊥) (sym w.person_is)
-            (subst (λ (l : ListId). IsBetter l o.holder person → ⊥) (sym (same_list p)) o.not_better);
-      }
+  abbrev got : ℕ → Option Seat
+  got = seat_of facts (Some round)
 
-  opened : (p : ℕ) (person : Person) → IsOpenTo table seekers round.seats p person → IsOpenThen facts round p person
-  opened p person o =
-      let entry = enters facts state window o.place o.holder sound o.there in
-      let w = in_round facts state window o.place round o.holder.person sound course is entry.person_at in
-      record {
-        holder = o.holder.person;
-        among = at_among facts.people o.place o.holder.person entry.person_at;
-        step = o.step;
-        holds = w.seat_is ∙ (let a = w.has in let b = o.holds in cc);
-        may = subst (λ (l : ListId). MayStandFor l o.step person) (same_list p) o.may;
-        traits = o.traits;
-        not_better = subst (λ (l : ListId). IsBetter l o.holder.person person → ⊥) (same_list p) o.not_better;
-      }
+  -- a programme is open by the season's matrix exactly where it is by that of the round
+  opens : (p : ℕ) (person : Person) → IsOpenThen facts round p person → IsOpenFor table facts.people got p person
+  opens p person o = record {
+    holder = o.holder;
+    among = o.among;
+    step = o.step;
+    holds = o.holds;
+    may = subst (λ (l : ListId). MayStandFor l o.step person) (sym (same_list p)) o.may;
+    traits = o.traits;
+    not_better = subst (λ (l : ListId). IsBetter l o.holder person → ⊥) (sym (same_list p)) o.not_better;
+  }
 
-  module _ (i : ℕ) (person : Person) (at : slice_get facts.people i ≡ Some person) where
-    abbrev mine : InRound facts state window i round person
-    mine = in_round facts state window i round person sound course is at
+  opened : (p : ℕ) (person : Person) → IsOpenFor table facts.people got p person → IsOpenThen facts round p person
+  opened p person o = record {
+    holder = o.holder;
+    among = o.among;
+    step = o.step;
+    holds = o.holds;
+    may = subst (λ (l : ListId). MayStandFor l o.step person) (same_list p) o.may;
+    traits = o.traits;
+    not_better = subst (λ (l : ListId). IsBetter l o.holder person → ⊥) (same_list p) o.not_better;
+  }
 
-    abbrev wanted : List ProgId
-    wanted = wanted_then facts state window person.id.0
+  decided_then : (person : Person) → IsDecidedFor table facts.people (wanted_then facts state window person.id.0) got person → IsDecidedThen facts state window round person
+  decided_then person d = record {
+    seated = λ p. (
+      λ of_it.
+          let f = (d.seated p).0 of_it in
+          record { wanted = f.wants_it; is_open = opened p person f.is_open; none_before = λ other less o. f.none_before other less (opens other person o) },
+      λ f. (d.seated p).1 (record { wants_it = f.wanted; is_open = opens p person f.is_open; none_before = λ other less o. f.none_before other less (opened other person o) }),
+    );
+    unseated = (λ none p wanted o. d.unseated.0 none p wanted (opens p person o), λ none. d.unseated.1 (λ p wanted o. none p wanted (opened p person o)));
+  }
 
-    -- the first open one, both ways
-    firsts : (p : ℕ) → IsFirstOpenThen facts state window round person p → IsFirstOpen table seekers round.seats mine.s p
-    firsts p f = record {
-      wanted = subst (λ (l : List ProgId). wants p l ≡ true) (sym mine.list_is) f.wanted;
-      is_open = subst (λ (h : Person). IsOpenTo table seekers round.seats p h) (sym mine.person_is) (opens p person f.is_open);
-      none_before = λ other before o. f.none_before other (subst (λ (l : List ProgId). place_of l other < place_of l p) mine.list_is before)
-          (opened other person (subst (λ (h : Person). IsOpenTo table seekers round.seats other h) mine.person_is o));
-    }
+pub nobody_is_envied : AreOrderly → ((facts : SeasonFacts) → PublishedRoundsAreJustified facts) → (facts : SeasonFacts) → NobodyIsEnvied facts
+nobody_is_envied orderly justified facts entries state window round better worse seat published here here' has wanted ahead may holds =
+    let lists = sym (same_list facts state window round published.sound (course_of orderly facts entries state window round published) published.there seat.prog.0) in
+    (justified facts entries state window round published).nobody_is_envied better worse seat here here' has wanted
+    (subst (λ (l : ListId). IsBetter l better worse) lists ahead) (subst (λ (l : ListId). MayStandFor l seat.step better) lists may) holds
 
-    first : (p : ℕ) → IsFirstOpen table seekers round.seats mine.s p → IsFirstOpenThen facts state window round person p
-    first p f = record {
-      wanted = subst (λ (l : List ProgId). wants p l ≡ true) mine.list_is f.wanted;
-      is_open = opened p person (subst (λ (h : Person). IsOpenTo table seekers round.seats p h) mine.person_is f.is_open);
-      none_before = λ other before o. f.none_before other (subst (λ (l : List ProgId). place_of l other < place_of l p) (sym mine.list_is) before)
-          (subst (λ (h : Person). IsOpenTo table seekers round.seats other h) (sym mine.person_is) (opens other person o));
-    }
-
-    pub decided_then : IsDecided table seekers round.seats mine.s mine.seat → IsDecidedThen facts state window round person
-    decided_then d = record {
-      seated = λ p. (
-        λ of_it. first p ((d.seated p).0 (subst (λ (o : Option Seat). is_of p o ≡ true) mine.seat_is of_it)),
-        λ f. subst (λ (o : Option Seat). is_of p o ≡ true) (sym mine.seat_is) ((d.seated p).1 (firsts p f)),
-      );
-      unseated = (
-        λ none p wants_it o. d.unseated.0 (sym mine.seat_is ∙ none) p (subst (λ (l : List ProgId). wants p l ≡ true) (sym mine.list_is) wants_it)
-            (subst (λ (h : Person). IsOpenTo table seekers round.seats p h) (sym mine.person_is) (opens p person o)),
-        λ none. mine.seat_is ∙ d.unseated.1 (λ p wants_it o. none p (subst (λ (l : List ProgId). wants p l ≡ true) mine.list_is wants_it)
-            (opened p person (subst (λ (h : Person). IsOpenTo table seekers round.seats p h) mine.person_is o))),
-      );
-    }
+pub seats_are_within : AreOrderly → SeatsAreWithinWhereFair → (facts : SeasonFacts) → SeatsAreWithin facts
+seats_are_within orderly within facts entries state window round prog published below =
+    let course = course_of orderly facts entries state window round published in
+    let same = ap length (course.programmes (suc window)) in
+    within facts.version (matrix_then facts state window) (market_then facts state window) round.seats prog (fair_over facts state window round published.sound course published.there)
+    (omega (arith, below, same))
 
 pub no_seat_is_wasted_then : AreOrderly → NoSeatIsWasted → (facts : SeasonFacts) → NoSeatIsWastedThen facts
 no_seat_is_wasted_then orderly none facts entries state window round person prog step published left among wanted may =
@@ -130,14 +111,10 @@ no_seat_is_wasted_then orderly none facts entries state window round person prog
     subst (λ (o : Option Seat). IsThatOrEarlier (wanted_then facts state window person.id.0) prog o) (sym mine.seat_is)
     (subst (λ (l : List ProgId). IsThatOrEarlier l prog mine.seat) mine.list_is got)
 
-pub closing_places_decide_then : AreOrderly → ClosingPlacesDecide → (facts : SeasonFacts) → ClosingPlacesDecideThen facts
-closing_places_decide_then orderly decide facts entries state window round person published among =
-    let course = course_of orderly facts entries state window round published in
-    let at = place_among facts.people person among in
-    let mine = in_round facts state window at.0 round person published.sound course published.there at.1 in
-    let over = fair_over facts state window round published.sound course published.there in
-    decided_then facts state window round published.sound course published.there at.0 person at.1
-    (decide facts.version (matrix_then facts state window) (market_then facts state window) round.seats at.0 mine.s mine.seat over mine.there mine.has)
+pub closing_places_decide_then : AreOrderly → ((facts : SeasonFacts) → PublishedRoundsAreJustified facts) → (facts : SeasonFacts) → ClosingPlacesDecideThen facts
+closing_places_decide_then orderly justified facts entries state window round person published among =
+    decided_then facts state window round published.sound (course_of orderly facts entries state window round published) published.there person
+    ((justified facts entries state window round published).closing_places_decide person among)
 
 -- two rounds that follow each other
 record FollowEachOther (facts : SeasonFacts) (state : State) (window : ℕ) (round next : Round) (prog : ℕ) : Type 0 where

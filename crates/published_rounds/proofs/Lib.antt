@@ -2,7 +2,6 @@ mod OneMore
 mod Simple
 pub mod ListFronts
 mod Compared
-mod Envy
 mod Fronts
 pub mod Places
 mod WholeListLaws

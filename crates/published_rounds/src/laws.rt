@@ -39,8 +39,7 @@ pub fn nobody_is_envied()
     ensures { (facts : SeasonFacts) → NobodyIsEnvied facts }
 {
     history_laws::laws::orderly();
-    round_laws::laws::choose_well();
-    programme_laws::laws::nobody_is_passed_over();
+    published_rounds_are_justified();
 }
 
 /// In a published round no step of a programme gives more seats than it has.
@@ -48,8 +47,7 @@ pub fn seats_are_within()
     ensures { (facts : SeasonFacts) → SeatsAreWithin facts }
 {
     history_laws::laws::orderly();
-    round_laws::laws::choose_well();
-    open_then_category::laws::one_programme_choice();
+    seats_are_within_where_fair();
 }
 
 /// Every fair allocation of a published round seats the same candidates, and fills as many seats of each programme.
@@ -209,7 +207,7 @@ pub fn closing_places_decide_then()
     ensures { (facts : SeasonFacts) → ClosingPlacesDecideThen facts }
 {
     history_laws::laws::orderly();
-    closing_places_decide();
+    published_rounds_are_justified();
 }
 
 /// A programme whose seats are not raised has no more holders in the next published round.

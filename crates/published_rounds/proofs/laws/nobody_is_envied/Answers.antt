@@ -1,5 +1,5 @@
-use Rattle.published_rounds.proofs.Envy as envy
+use Rattle.published_rounds.proofs.FairThen as then
 use Rattle.published_rounds.proofs.laws.nobody_is_envied.Goals as goal
 
 pub returns : goal.returns
-returns c = envy.nobody_is_envied c.orderly.ensures c.choose_well.ensures c.nobody_is_passed_over.ensures
+returns c = then.nobody_is_envied c.orderly.ensures c.published_rounds_are_justified.ensures
