@@ -2,7 +2,7 @@
 use Rattle.std.proofs.Common.{◌≡◌, ◌≢◌, ◌+◌, ◌≤◌, inl, inr, ℕ, Bool, true, false, List, [], ◌∷◌, Option, Some, None, length, take, map, refl, sym, ap, ◌∙◌, subst, not, ◌==◌, if◌then◌else◌}
 use Rattle.std.specs.Prelude.{◌↔◌, ◌||◌, IsTrue}
 use Rattle.std.specs.List.{AllByRecursion, filter}
-use Rattle.std.proofs.lemmas.Bool.{cases_Bool, eq-eqb, eqb-true, lt-ltb, ltb-true}
+use Rattle.std.proofs.lemmas.Bool.{eq-eqb, lt-ltb, ltb-true, ne_eqb}
 use Rattle.std.proofs.lemmas.List.{length-map, take-map}
 use Rattle.office_base.specs.CategorySteps.{own_steps, row_of}
 use Rattle.office_base.specs.Lists.{AnyByRecursion, IsAmong, IsSublist, Pairwise}
@@ -20,6 +20,7 @@ use Rattle.office_base.specs.declared.person.TraitSet.{TraitSet}
 use Rattle.office_base.specs.declared.step.Protections.{Protections}
 use Rattle.office_base.specs.declared.step.StepKind.{StepKind}
 use Rattle.office_base.specs.declared.step.StepKind.TheVariants.{Open, Dereserved}
+use Rattle.placements.proofs.Convert.{same_cand as one_cand}
 use Rattle.placements.proofs.Ranks.{same_cand}
 use Rattle.seat_matrix.specs.Seats.{AreProgrammeSeats, seats_of}
 use Rattle.seat_matrix.specs.Unfilled.{left_unfilled}
@@ -31,6 +32,14 @@ use Rattle.open_then_category.specs.Laws.{OneProgrammeChoice, ProgrammeChoiceExi
 use Rattle.published_rounds.specs.Order.{KeepsOrder}
 
 -- ---- lists
+
+pub all_map : {X Y : Type 0} (f : X → Y) (P : X → Type 0) (Q : Y → Type 0) → ((x : X) → P x → Q (f x)) → (xs : List X) → AllByRecursion P xs → AllByRecursion Q (map f xs)
+all_map f P Q each [] h = tt
+all_map f P Q each (x ∷ xs) h = (each x h.0, all_map f P Q each xs h.1)
+
+pub pairwise_map : {X Y : Type 0} (f : X → Y) (R : X → X → Type 0) (S : Y → Y → Type 0) → ((x y : X) → R x y → S (f x) (f y)) → (xs : List X) → Pairwise R xs → Pairwise S (map f xs)
+pairwise_map f R S each [] h = tt
+pairwise_map f R S each (x ∷ xs) h = (all_map f (R x) (S (f x)) (each x) xs h.0, pairwise_map f R S each xs h.1)
 
 sublist_map : (f : Person → Person) (xs ys : List Person) → IsSublist xs ys → IsSublist (map f xs) (map f ys)
 sublist_map f xs [] h = ap (λ l. map f l) h
@@ -56,11 +65,10 @@ among_of_map : (f : Person → Person) → ((a b : Person) → f a ≡ f b → a
 among_of_map f apart x [] h = absurd h
 among_of_map f apart x (y ∷ xs) h = elim h [ inl here ↦ inl (apart x y here) | inr later ↦ inr (among_of_map f apart x xs later) ]
 
-filter_if : (f : Person → Person) (b c : Bool) (x : Person) (xs ys : List Person) → b ≡ c → xs ≡ map f ys → (if b then f x ∷ xs else xs) ≡ map f (if c then x ∷ ys else ys)
+pub filter_if : (f : Person → Person) (b c : Bool) (x : Person) (xs ys : List Person) → b ≡ c → xs ≡ map f ys → (if b then f x ∷ xs else xs) ≡ map f (if c then x ∷ ys else ys)
 filter_if f true true x xs ys e h = ap (λ l. f x ∷ l) h
-filter_if f true false x xs ys e h = absurd (cc)
-filter_if f false true x xs ys e h = absurd (cc)
 filter_if f false false x xs ys e h = h
+filter_if f b c x xs ys e h = absurd (cc)
 
 filter_map : (f : Person → Person) (p q : Person → Bool) (xs : List Person) → ((x : Person) → p (f x) ≡ q x) → filter p (map f xs) ≡ map f (filter q xs)
 filter_map f p q [] same = refl
@@ -69,15 +77,13 @@ filter_map f p q (x ∷ xs) same = filter_if f (p (f x)) (q x) x (filter p (map 
 with_if : (f : Person → Person) (b c : Bool) (x o : Person) (ps ws vs : List Person) → b ≡ c → ws ≡ map f vs
     → (if b then f x ∷ f o ∷ map f ps else f o ∷ ws) ≡ map f (if c then x ∷ o ∷ ps else o ∷ vs)
 with_if f true true x o ps ws vs e h = refl
-with_if f true false x o ps ws vs e h = absurd (cc)
-with_if f false true x o ps ws vs e h = absurd (cc)
 with_if f false false x o ps ws vs e h = ap (λ l. f o ∷ l) h
+with_if f b c x o ps ws vs e h = absurd (cc)
 
 -- the test of two numbers
 ahead_tells : (m n : Option ℕ) → IsAhead m n ↔ (is_ahead m n ≡ true)
-ahead_tells None n = (λ h. absurd h, λ e. absurd (cc))
-ahead_tells (Some m) None = (λ h. absurd h, λ e. absurd (cc))
 ahead_tells (Some m) (Some n) = (λ h. lt-ltb m n h, λ e. ltb-true m n e)
+ahead_tells m n = (λ h. absurd h, λ e. absurd (cc))
 
 module _ (g : CandId → CandId) (f : Person → Person) (keeps : KeepsOrder g f) where
   -- ---- the order
@@ -112,26 +118,14 @@ module _ (g : CandId → CandId) (f : Person → Person) (keeps : KeepsOrder g f
   any_map pair [] h = absurd h
   any_map pair (x ∷ xs) h = elim h [ inl here ↦ inl (fills_map pair x here) | inr later ↦ inr (any_map pair xs later) ]
 
-  all_map : (xs : List Person) (pairs : List Pair) → AllByRecursion (λ pair. AnyByRecursion (Fills pair) xs) pairs → AllByRecursion (λ pair. AnyByRecursion (Fills pair) (map f xs)) (map renamed pairs)
-  all_map xs [] h = tt
-  all_map xs (pair ∷ pairs) h = (any_map pair xs h.0, all_map xs pairs h.1)
-
-  apart_map : (pair : Pair) (pairs : List Pair) → AllByRecursion (λ (other : Pair). pair.cand ≢ other.cand) pairs → AllByRecursion (λ (other : Pair). g pair.cand ≢ other.cand) (map renamed pairs)
-  apart_map pair [] h = tt
-  apart_map pair (other ∷ pairs) h = ((λ e. h.0 (keeps.ids_apart pair.cand other.cand e)), apart_map pair pairs h.1)
-
-  once_map : (pairs : List Pair) → Pairwise (λ a b. a.cand ≢ b.cand) pairs → Pairwise (λ a b. a.cand ≢ b.cand) (map renamed pairs)
-  once_map [] h = tt
-  once_map (pair ∷ pairs) h = (apart_map pair pairs h.0, once_map pairs h.1)
-
   placed_map : (t : ℕ) (pairs : List Pair) → placed_on t (map renamed pairs) ≡ placed_on t pairs
   placed_map t [] = refl
   placed_map t (pair ∷ pairs) = ap (λ n. (if pair.slot == t then 1 else 0) + n) (placed_map t pairs)
 
   placement_map : (protections : Protections) (xs : List Person) (pairs : List Pair) → IsPlacement protections xs pairs → IsPlacement protections (map f xs) (map renamed pairs)
   placement_map protections xs pairs h = record {
-    held = all_map xs pairs h.held;
-    once = once_map pairs h.once;
+    held = all_map renamed (λ pair. AnyByRecursion (Fills pair) xs) (λ pair. AnyByRecursion (Fills pair) (map f xs)) (λ pair. any_map pair xs) pairs h.held;
+    once = pairwise_map renamed (λ (a : Pair) (b : Pair). a.cand ≢ b.cand) (λ (a : Pair) (b : Pair). a.cand ≢ b.cand) (λ a b apart e. apart (keeps.ids_apart a.cand b.cand e)) pairs h.once;
     within = λ t. subst (λ n. n ≤ protected protections t) (sym (placed_map t pairs)) (h.within t);
   }
 
@@ -215,14 +209,8 @@ module _ (g : CandId → CandId) (f : Person → Person) (keeps : KeepsOrder g f
   same_ids : (a b : CandId) → ((g a).0 == (g b).0) ≡ (a.0 == b.0)
   same_ids a b = elim (same_cand a b) [
     | inl same ↦ eq-eqb (g a).0 (g b).0 (ap (λ (c : CandId). (g c).0) same) ∙ sym (eq-eqb a.0 b.0 (ap (λ (c : CandId). c.0) same))
-    | inr apart ↦ differ (g a) (g b) (λ e. apart (keeps.ids_apart a b e)) ∙ sym (differ a b apart)
+    | inr apart ↦ ne_eqb (g a).0 (g b).0 (λ e. apart (keeps.ids_apart a b (one_cand (g a) (g b) e))) ∙ sym (ne_eqb a.0 b.0 (λ e. apart (one_cand a b e)))
   ]
-    where
-      differ : (a b : CandId) → a ≢ b → (a.0 == b.0) ≡ false
-      differ a b apart = elim (cases_Bool (a.0 == b.0)) [
-        | inl same ↦ absurd (apart (ap (λ (n : ℕ). let c : CandId = record { 0 = n } in c) (eqb-true a.0 b.0 same)))
-        | inr other ↦ other
-      ]
 
   taken_map : (taken : List Person) (x : Person) → is_taken (map f taken) (f x) ≡ is_taken taken x
   taken_map [] x = refl

@@ -52,14 +52,9 @@ module _ (number : ℕ → ℕ) (rises : (m n : ℕ) → m < n → number m < nu
 
   one_place : (p q : Place) → place_with number p ≡ place_with number q → p ≡ q
   one_place Absent Absent e = refl
-  one_place Absent (Common n) e = absurd (cc)
-  one_place Absent (Relaxed n) e = absurd (cc)
-  one_place (Common m) Absent e = absurd (cc)
   one_place (Common m) (Common n) e = let same : number m ≡ number n = cc in ap (λ k. Common k) (one_number m n same)
-  one_place (Common m) (Relaxed n) e = absurd (cc)
-  one_place (Relaxed m) Absent e = absurd (cc)
-  one_place (Relaxed m) (Common n) e = absurd (cc)
   one_place (Relaxed m) (Relaxed n) e = let same : number m ≡ number n = cc in ap (λ k. Relaxed k) (one_number m n same)
+  one_place p q e = absurd (cc)
 
 -- ---- all lists
 
@@ -70,12 +65,11 @@ place_there numbers (p ∷ places) (suc i) = place_there (λ j. numbers (suc j))
 
 one_places : (numbers : ℕ → ℕ → ℕ) → ((list m n : ℕ) → m < n → numbers list m < numbers list n) → (ps qs : List Place) → places_with numbers ps ≡ places_with numbers qs → ps ≡ qs
 one_places numbers rises [] [] e = refl
-one_places numbers rises [] (q ∷ qs) e = absurd (cc)
-one_places numbers rises (p ∷ ps) [] e = absurd (cc)
 one_places numbers rises (p ∷ ps) (q ∷ qs) e =
     let first : place_with (numbers 0) p ≡ place_with (numbers 0) q = cc in
     let rest : places_with (λ i. numbers (suc i)) ps ≡ places_with (λ i. numbers (suc i)) qs = cc in
     ap (λ z. z ∷ ps) (one_place (numbers 0) (rises 0) p q first) ∙ ap (λ l. q ∷ l) (one_places (λ i. numbers (suc i)) (λ list. rises (suc list)) ps qs rest)
+one_places numbers rises ps qs e = absurd (cc)
 
 -- a person is what their parts are
 pub one_of_parts : (a b : Person) → a.id ≡ b.id → a.category ≡ b.category → a.traits ≡ b.traits → a.places ≡ b.places → a ≡ b

@@ -1,22 +1,19 @@
 -- Registers in the same order, candidate by candidate: each id is renamed to that of the partner, and then only the numbers differ.
 use Rattle.std.proofs.Common.{◌≡◌, ◌≢◌, ◌+◌, ◌<◌, ◌==◌, inl, inr, ℕ, zero, suc, Bool, true, false, List, [], ◌∷◌, Some, map, arith, refl, sym, ap, ◌∙◌, subst, if◌then◌else◌}
-use Rattle.std.specs.Prelude.{◌↔◌, ◌⊎◌, IsSome, slice_get}
-use Rattle.std.specs.List.{AllByRecursion}
+use Rattle.std.specs.Prelude.{◌↔◌, ◌⊎◌, slice_get}
 use Rattle.std.proofs.lemmas.Bool.{cases_eq, eq-eqb, ne_eqb}
 use Rattle.std.proofs.lemmas.List.{length-map}
 use Rattle.office_base.specs.Lists.{Pairwise}
-use Rattle.office_base.proofs.Lists.{all-get, all_weaker}
-use Rattle.office_base.specs.Person.{IsBetter, IsTraitSet, number_in}
+use Rattle.office_base.proofs.Lists.{all-get}
+use Rattle.office_base.specs.Person.{IsBetter}
 use Rattle.office_base.specs.declared.person.CandId.{CandId}
 use Rattle.office_base.specs.declared.person.Person.{Person}
-use Rattle.office_base.specs.declared.person.ProgId.{ProgId}
-use Rattle.seat_matrix.specs.Matrix.{SeatTable, list_in}
 use Rattle.rounds.specs.Rule.{AreEntrants}
 use Rattle.placements.proofs.Convert.{same_cand}
 use Rattle.published_rounds.specs.Order.{KeepsOrder, OnlyTheOrderCounts}
 use Rattle.published_rounds.specs.Registers.{TheSameOrderGivesTheSameSeats, without_numbers}
 use Rattle.published_rounds.proofs.MovingUp.{AreRenumbered, renumbered_give_the_same}
-use Rattle.published_rounds.proofs.Numbered.{map_back}
+use Rattle.published_rounds.proofs.Numbered.{entrants_by, map_back}
 use Rattle.published_rounds.proofs.Numbers.{one_of_parts}
 
 -- ---- ids
@@ -92,8 +89,6 @@ pair_or_none far (a ∷ people) (b ∷ others) id = by (cases_eq a.id.0 id.0) (p
 -- a person of the first register has the partner's id
 partner_at : (far : ℕ) (people others : List Person) (i : ℕ) (a b : Person) → Pairwise (λ (a b : Person). a.id ≢ b.id) people → slice_get people i ≡ Some a → slice_get others i ≡ Some b
     → partner far people others a.id ≡ b.id
-partner_at far [] others i a b apart at at' = absurd (cc)
-partner_at far (p ∷ people) [] i a b apart at at' = absurd (cc)
 partner_at far (p ∷ people) (q ∷ others) zero a b apart at at' =
     let mine : p.id.0 ≡ a.id.0 = cc in
     let its : q.id ≡ b.id = cc in
@@ -102,6 +97,7 @@ partner_at far (p ∷ people) (q ∷ others) (suc i) a b apart at at' =
     choose (p.id.0 == a.id.0) false q.id (partner far people others a.id)
     (ne_eqb p.id.0 a.id.0 (λ e. all-get (λ (other : Person). p.id ≢ other.id) people i a apart.0 at (same_cand p.id a.id e)))
     ∙ partner_at far people others i a b apart.1 at at'
+partner_at far people others i a b apart at at' = absurd (cc)
 
 -- a renaming that keeps ids apart
 partners_apart : (people others : List Person) → Pairwise (λ (a b : Person). a.id ≢ b.id) others → (x y : CandId)
@@ -148,40 +144,6 @@ keeps_order rename apart = record {
       one_of_parts a b (apart a.id b.id (ap (λ (p : Person). p.id) e)) (ap (λ (p : Person). p.category) e) (ap (λ (p : Person). p.traits) e) (ap (λ (p : Person). p.places) e);
 }
 
-module _ (rename : CandId → CandId) (ids_apart : (a b : CandId) → rename a ≡ rename b → a ≡ b) where
-  traits_stay : (people : List Person) → AllByRecursion (λ person. IsTraitSet person.traits) people → AllByRecursion (λ person. IsTraitSet person.traits) (map (with_id rename) people)
-  traits_stay [] h = tt
-  traits_stay (p ∷ people) h = (h.0, traits_stay people h.1)
-
-  apart_from : (a : Person) (people : List Person) → AllByRecursion (λ b. a.id ≢ b.id) people → AllByRecursion (λ b. rename a.id ≢ b.id) (map (with_id rename) people)
-  apart_from a [] h = tt
-  apart_from a (b ∷ people) h = (λ e. h.0 (ids_apart a.id b.id e), apart_from a people h.1)
-
-  distinct_stay : (people : List Person) → Pairwise (λ a b. a.id ≢ b.id) people → Pairwise (λ a b. a.id ≢ b.id) (map (with_id rename) people)
-  distinct_stay [] h = tt
-  distinct_stay (p ∷ people) h = (apart_from p people h.0, distinct_stay people h.1)
-
-  -- a register with other ids is one
-  entrants_with : (table : SeatTable) (people : List Person) (lists : List (List ProgId)) → AreEntrants table people lists → AreEntrants table (map (with_id rename) people) lists
-  entrants_with table people lists enter = record {
-    traits = traits_stay people enter.traits;
-    distinct = distinct_stay people enter.distinct;
-    apart = λ list i j n a b is at at' e e'.
-        let p = map_back (with_id rename) people i a at in
-        let q = map_back (with_id rename) people j b at' in
-        enter.apart list i j n p.0 q.0 is p.1 q.1 (ap (λ (z : Person). number_in list z) (sym p.2) ∙ e) (ap (λ (z : Person). number_in list z) (sym q.2) ∙ e');
-    full = enter.full ∙ sym (length-map people (with_id rename));
-    own = λ i person list at at'.
-        let p = map_back (with_id rename) people i person at in
-        let own = enter.own i p.0 list p.1 at' in
-        record {
-          below = own.below;
-          distinct = own.distinct;
-          placed = all_weaker (λ (prog : ProgId). IsSome (number_in (list_in table prog.0) p.0)) (λ (prog : ProgId). IsSome (number_in (list_in table prog.0) person))
-              (λ prog some. subst (λ (z : Person). IsSome (number_in (list_in table prog.0) z)) (sym p.2) some) list own.placed;
-        };
-  }
-
 -- ---- the same order
 
 pub the_same_order_gives_the_same_seats : OnlyTheOrderCounts → TheSameOrderGivesTheSameSeats
@@ -200,7 +162,7 @@ the_same_order_gives_the_same_seats order version table people others lists seek
     named = map (with_id rename) people
 
     between : AreEntrants table named lists
-    between = entrants_with rename apart table people lists enter
+    between = entrants_by rename (with_id rename) (keeps_order rename apart) (λ list a some. some) (λ list n a b e e'. (n, e, e')) table people lists enter
 
     alike : AreRenumbered named others
     alike = record {

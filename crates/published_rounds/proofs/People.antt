@@ -1,13 +1,12 @@
 -- Fair seats can be justified to each person.
-use Rattle.std.proofs.Common.{◌≡◌, ℕ, List, Option, Some, length, map, arith, refl, sym, ap, ◌∙◌, subst}
+use Rattle.std.proofs.Common.{◌≡◌, ℕ, List, Option, Some, length, refl, sym, ap, ◌∙◌, subst}
 use Rattle.std.specs.Prelude.{slice_get}
 use Rattle.std.proofs.lemmas.List.{length-map}
-use Rattle.std.proofs.lemmas.Option.{slice_get_within}
 use Rattle.office_base.specs.Person.{IsBetter}
 use Rattle.office_base.specs.declared.asks.Seat.{Seat}
 use Rattle.office_base.specs.declared.person.Person.{Person}
 use Rattle.office_base.specs.declared.person.ProgId.{ProgId}
-use Rattle.office_base.proofs.Lists.{at_among, there_is}
+use Rattle.office_base.proofs.Lists.{at_among}
 use Rattle.allocations.specs.Market.{Seeker, seat_at}
 use Rattle.allocations.proofs.Places.{seat_same}
 use Rattle.programme_laws.specs.Laws.{HoldsEachTraitOf}
@@ -22,16 +21,7 @@ use Rattle.published_rounds.specs.Fair.{AreFairOver, IsDecided, IsFirstOpen, IsO
 use Rattle.published_rounds.specs.FairLaws.{ClosingPlacesDecide, NoSeatIsWasted, NobodyIsEnviedWhereFair, SeatsAreWithinWhereFair}
 use Rattle.published_rounds.specs.People.{AreFairTo, AreJustified, FairSeatsAreJustified, IsDecidedFor, IsFirstOpenFor, IsOpenFor, PublishedRoundsAreJustified, seats_by, seekers_by}
 use Rattle.published_rounds.proofs.FairThen.{fair_over}
-
--- ---- lists along the people
-
--- what an element of a list was made of
-pub made_of : {X Y : Type 0} (f : X → Y) (xs : List X) (i : ℕ) (y : Y) → slice_get (map f xs) i ≡ Some y → (x : X) × (slice_get xs i ≡ Some x) × (y ≡ f x)
-made_of f xs i y at =
-    let less = slice_get_within (map f xs) i y at in
-    let x = there_is xs i (omega (arith, less, length-map xs f)) in
-    let there = map_at f xs i x.0 x.1 in
-    (x.0, x.1, (let same : Some y ≡ Some (f x.0) = sym at ∙ there in cc))
+use Rattle.published_rounds.proofs.Numbered.{map_back}
 
 -- the laws of fair seats, place by place
 pub record AreLaws : Type 0 where
@@ -75,7 +65,7 @@ module _ (version : ℕ) (table : SeatTable) (people : List Person) (wanted : �
 
   opened : (p : ℕ) (person : Person) → IsOpenTo table seekers seats p person → IsOpenFor table people got p person
   opened p person o =
-      let who = made_of as_seeker people o.place o.holder o.there in
+      let who = map_back as_seeker people o.place o.holder o.there in
       let same : o.holder.person ≡ who.0 = ap (λ (z : Seeker). z.person) who.2 in
       let has = seat_there o.place who.0 who.1 in
       record {
@@ -142,14 +132,14 @@ fair_to version table people wanted got seekers seats full who gets over =
     same_seekers : seekers ≡ seekers_by wanted people
     same_seekers = same_places seekers (seekers_by wanted people) (full ∙ sym (length-map people (λ (person : Person). record { person = person; list = wanted person.id.0 })))
         (λ i s t there there'.
-        let made = made_of (λ (person : Person). record { person = person; list = wanted person.id.0 }) people i t there' in
+        let made = map_back (λ (person : Person). record { person = person; list = wanted person.id.0 }) people i t there' in
         let is = who i s made.0 there made.1 in
         seeker_is s made.0 (wanted made.0.id.0) is.0 is.1 ∙ sym made.2)
 
     same_seats : seats ≡ seats_by got people
     same_seats = same_places seats (seats_by got people) (over.fair.allocation.full ∙ (full ∙ sym (length-map people (λ (person : Person). got person.id.0))))
         (λ i x y there there'.
-        let made = made_of (λ (person : Person). got person.id.0) people i y there' in
+        let made = map_back (λ (person : Person). got person.id.0) people i y there' in
         gets i x made.0 there made.1 ∙ sym made.2)
 
 -- ---- published rounds

@@ -1,5 +1,5 @@
 -- With other numbers in the same order the best fair seats are the same.
-use Rattle.std.proofs.Common.{◌≡◌, ◌<◌, ◌≤◌, ℕ, Bool, true, false, List, [], ◌∷◌, Option, Some, length, map, refl, sym, ap, ◌∙◌, subst, if◌then◌else◌}
+use Rattle.std.proofs.Common.{◌≡◌, ◌<◌, ◌≤◌, ℕ, List, [], ◌∷◌, Option, Some, length, map, refl, sym, ap, ◌∙◌, subst}
 use Rattle.std.specs.Prelude.{◌↔◌, slice_get}
 use Rattle.std.proofs.lemmas.List.{length-map}
 use Rattle.office_base.specs.declared.asks.Seat.{Seat}
@@ -10,7 +10,6 @@ use Rattle.office_base.specs.declared.step.StepKind.{StepKind}
 use Rattle.allocations.specs.Fair.{IsBest, IsFair, IsMarket, IsOwn}
 use Rattle.allocations.specs.Market.{Seeker, applicants, applies, rank_of}
 use Rattle.allocations.proofs.Claims.{applicants_may}
-use Rattle.allocations.proofs.Those.{value_at}
 use Rattle.open_then_category.specs.Laws.{OneProgrammeChoice, ProgrammeChoiceExists}
 use Rattle.seat_matrix.specs.Matrix.{AreSeats, SeatTable, seats_in}
 use Rattle.seeks.specs.Seek.{seek_leaves}
@@ -19,7 +18,8 @@ use Rattle.rounds.specs.Rule.{MayApplyIn, ProgrammesChooseWell, rule_of, seekers
 use Rattle.rounds.proofs.Entrants.{market}
 use Rattle.history_laws.proofs.Fits.{map_at}
 use Rattle.published_rounds.specs.Order.{KeepsOrder, OnlyTheOrderCounts}
-use Rattle.published_rounds.proofs.Choices.{admits_map}
+use Rattle.published_rounds.proofs.Numbered.{map_back}
+use Rattle.published_rounds.proofs.Choices.{admits_map, filter_if}
 
 -- the same seeker with other numbers
 abbrev pub renumbered : (Person → Person) → Seeker → Seeker
@@ -32,14 +32,10 @@ seekers_map f table (person ∷ people) [] seeks = refl
 seekers_map f table (person ∷ people) (list ∷ lists) [] = refl
 seekers_map f table (person ∷ people) (list ∷ lists) (seek ∷ seeks) = ap (λ l. record { person = f person; list = seek_leaves table seek list } ∷ l) (seekers_map f table people lists seeks)
 
-those_if : (f : Person → Person) (b : Bool) (x : Person) (xs ys : List Person) → xs ≡ map f ys → (if b then f x ∷ xs else xs) ≡ map f (if b then x ∷ ys else ys)
-those_if f true x xs ys e = ap (λ l. f x ∷ l) e
-those_if f false x xs ys e = e
-
 applicants_map : (f : Person → Person) (p : ℕ) (seekers : List Seeker) (seats : List (Option Seat)) → applicants p (map (renumbered f) seekers) seats ≡ map f (applicants p seekers seats)
 applicants_map f p [] seats = refl
 applicants_map f p (s ∷ seekers) [] = refl
-applicants_map f p (s ∷ seekers) (seat ∷ seats) = those_if f (applies p s.list seat) s.person _ _ (applicants_map f p seekers seats)
+applicants_map f p (s ∷ seekers) (seat ∷ seats) = filter_if f (applies p s.list seat) (applies p s.list seat) s.person _ _ refl (applicants_map f p seekers seats)
 
 module _ (exists : ProgrammeChoiceExists) (one : OneProgrammeChoice) (well : ProgrammesChooseWell) (version : ℕ) (table : SeatTable) (ok : AreSeats table) (g : CandId → CandId) (f : Person → Person)
     (keeps : KeepsOrder g f) (seekers : List Seeker) (here : IsMarket (MayApplyIn table) (length table.programmes) seekers)
@@ -58,9 +54,8 @@ module _ (exists : ProgrammeChoiceExists) (one : OneProgrammeChoice) (well : Pro
 
   base : (i : ℕ) (t : Seeker) → slice_get others i ≡ Some t → Base i t
   base i t at =
-      let s = value_at others seekers i t (sym (length-map seekers (renumbered f))) at in
-      let mine = map_at (renumbered f) seekers i s.0 s.1 in
-      record { s = s.0; there = s.1; is = (let same : Some t ≡ Some (renumbered f s.0) = sym at ∙ mine in cc) }
+      let s = map_back (renumbered f) seekers i t at in
+      record { s = s.0; there = s.1; is = s.2 }
 
   -- a programme admits the same persons
   same_admits : (p : ℕ) (seats : List (Option Seat)) (x : Person) (kind : StepKind) → p < count → length seats ≡ length seekers

@@ -15,7 +15,7 @@ use Rattle.office_base.specs.declared.person.Person.{Person}
 use Rattle.office_base.specs.declared.step.StepKind.{StepKind}
 use Rattle.office_base.specs.declared.step.StepKind.TheVariants.{Dereserved}
 use Rattle.placements.proofs.Sublists.{IsSublist-take, sublist_again}
-use Rattle.allocations.specs.Market.{Seeker, applicants, is_of, seat_at, those}
+use Rattle.allocations.specs.Market.{Seeker, is_of, seat_at, those}
 use Rattle.allocations.proofs.Places.{seat_same}
 use Rattle.programme_lists.specs.Chosen.{ChoosesFrom}
 use Rattle.programme_lists.specs.Programme.{Admissions, admitted_by, people_of, unfilled}
