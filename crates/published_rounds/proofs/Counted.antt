@@ -32,15 +32,12 @@ longer_if false x xs n e = omega (arith, e)
 
 tally_those : (f : Option Seat → Bool) (seekers : List Seeker) (seats : List (Option Seat)) → length seats ≡ length seekers → length (those (λ s seat. f seat) seekers seats) ≡ tally f seats
 tally_those f [] [] full = refl
-tally_those f [] (seat ∷ seats) full = absurd (omega (arith, full))
-tally_those f (s ∷ seekers) [] full = absurd (omega (arith, full))
 tally_those f (s ∷ seekers) (seat ∷ seats) full = longer_if (f seat) s.person _ _ (tally_those f seekers seats (omega (arith, full)))
+tally_those f seekers seats full = absurd (omega (arith, full))
 
 one_more : (b c : Bool) (m n : ℕ) → (b ≡ true → c ≡ true) → m ≤ n → one_for b + m ≤ one_for c + n
-one_more true true m n h le = omega (arith, le)
 one_more true false m n h le = absurd (let e = h refl in cc)
-one_more false true m n h le = omega (arith, le)
-one_more false false m n h le = omega (arith, le)
+one_more b c m n h le = omega (arith, le)
 
 -- where whoever passes in the first list passes in the second, no more do
 tally_le : (f : Option Seat → Bool) (xs ys : List (Option Seat)) → length ys ≡ length xs
@@ -53,8 +50,6 @@ tally_le f (x ∷ xs) (y ∷ ys) full each = one_more (f x) (f y) _ _ (each 0 x 
 tally_less : (f : Option Seat → Bool) (xs ys : List (Option Seat)) (r : ℕ) (x y : Option Seat) → length ys ≡ length xs
     → ((i : ℕ) (x y : Option Seat) → slice_get xs i ≡ Some x → slice_get ys i ≡ Some y → f x ≡ true → f y ≡ true) → slice_get xs r ≡ Some x → slice_get ys r ≡ Some y
     → f x ≡ false → f y ≡ true → tally f xs < tally f ys
-tally_less f [] ys r x y full each at at' fails passes = absurd (cc)
-tally_less f (a ∷ xs) [] r x y full each at at' fails passes = absurd (omega (arith, full))
 tally_less f (a ∷ xs) (b ∷ ys) zero x y full each at at' fails passes =
     let first : a ≡ x = cc in
     let second : b ≡ y = cc in
@@ -66,6 +61,7 @@ tally_less f (a ∷ xs) (b ∷ ys) (suc r) x y full each at at' fails passes =
     let rest = tally_less f xs ys r x y (omega (arith, full)) (λ i. each (suc i)) at at' fails passes in
     let here = one_more (f a) (f b) 0 0 (each 0 a b refl refl) (omega arith) in
     omega (arith, rest, here)
+tally_less f xs ys r x y full each at at' fails passes = absurd (cc)
 
 -- ---- over the programmes
 
@@ -113,31 +109,23 @@ length_mixed moves [] ys full = refl
 length_mixed moves (x ∷ xs) [] full = absurd (omega (arith, full))
 length_mixed moves (x ∷ xs) (y ∷ ys) full = ap suc (length_mixed (λ i. moves (suc i)) xs ys (omega (arith, full)))
 
-if_true : (b : Bool) (x y z : Option Seat) → b ≡ true → (if b then x else y) ≡ z → x ≡ z
-if_true true x y z e h = h
-if_true false x y z e h = absurd (cc)
-
-if_false : (b : Bool) (x y z : Option Seat) → b ≡ false → (if b then x else y) ≡ z → y ≡ z
-if_false true x y z e h = absurd (cc)
-if_false false x y z e h = h
-
 moved_at : (moves : ℕ → Bool) (xs ys : List (Option Seat)) (i : ℕ) (x z : Option Seat) → moves i ≡ true → slice_get xs i ≡ Some x → slice_get (mixed moves xs ys) i ≡ Some z → x ≡ z
-moved_at moves [] ys i x z e at at' = absurd (cc)
-moved_at moves (a ∷ xs) [] i x z e at at' = absurd (cc)
 moved_at moves (a ∷ xs) (b ∷ ys) zero x z e at at' =
     let first : x ≡ a = cc in
     let second : (if moves 0 then a else b) ≡ z = cc in
-    first ∙ if_true (moves 0) a b z e second
+    let chosen = rw e at second in
+    first ∙ chosen
 moved_at moves (a ∷ xs) (b ∷ ys) (suc i) x z e at at' = moved_at (λ j. moves (suc j)) xs ys i x z e at at'
+moved_at moves xs ys i x z e at at' = absurd (cc)
 
 kept_at : (moves : ℕ → Bool) (xs ys : List (Option Seat)) (i : ℕ) (y z : Option Seat) → moves i ≡ false → slice_get ys i ≡ Some y → slice_get (mixed moves xs ys) i ≡ Some z → y ≡ z
-kept_at moves [] ys i y z e at at' = absurd (cc)
-kept_at moves (a ∷ xs) [] i y z e at at' = absurd (cc)
 kept_at moves (a ∷ xs) (b ∷ ys) zero y z e at at' =
     let first : y ≡ b = cc in
     let second : (if moves 0 then a else b) ≡ z = cc in
-    first ∙ if_false (moves 0) a b z e second
+    let chosen = rw e at second in
+    first ∙ chosen
 kept_at moves (a ∷ xs) (b ∷ ys) (suc i) y z e at at' = kept_at (λ j. moves (suc j)) xs ys i y z e at at'
+kept_at moves xs ys i y z e at at' = absurd (cc)
 
 -- One market with fair seats, and another of the same persons with fair seats. At some places the seat of the second is one for which the seeker applied in the first.
 -- At all others whoever applies in the first applies in the second.

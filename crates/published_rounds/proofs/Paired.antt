@@ -69,8 +69,6 @@ record IsOfPair (people others : List Person) (id found : CandId) : Type 0 where
   gives : found ≡ b.id
 
 pair_or_none : (far : ℕ) (people others : List Person) (id : CandId) → IsOfPair people others id (partner far people others id) ⊎ ((partner far people others id).0 ≡ id.0 + far)
-pair_or_none far [] others id = inr refl
-pair_or_none far (a ∷ people) [] id = inr refl
 pair_or_none far (a ∷ people) (b ∷ others) id = by (cases_eq a.id.0 id.0) (pair_or_none far people others id)
   where
     rest : IsOfPair people others id (partner far people others id) ⊎ ((partner far people others id).0 ≡ id.0 + far)
@@ -85,6 +83,7 @@ pair_or_none far (a ∷ people) (b ∷ others) id = by (cases_eq a.id.0 id.0) (p
     by (inl same) later =
         subst Here (sym (eq-eqb a.id.0 id.0 same)) (inl (record { at = 0; a = a; b = b; there = refl; partner_there = refl; is = sym same; gives = refl }))
     by (inr other) later = subst Here (sym (ne_eqb a.id.0 id.0 other)) (rest later)
+pair_or_none far people others id = inr refl
 
 -- a person of the first register has the partner's id
 partner_at : (far : ℕ) (people others : List Person) (i : ℕ) (a b : Person) → Pairwise (λ (a b : Person). a.id ≢ b.id) people → slice_get people i ≡ Some a → slice_get others i ≡ Some b

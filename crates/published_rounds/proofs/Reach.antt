@@ -39,22 +39,20 @@ test_past : (m x : ℕ) → x ≤ m → nat_lt m x ≡ false
 test_past m x le = elim (cases_Bool (nat_lt m x)) [ inl e ↦ absurd (let less = ltb-true m x e in omega (arith, less, le)) | inr e ↦ e ]
 
 step_there : (m : ℕ) (a b : Option ℕ) (x y : ℕ) → a ≡ Some x → b ≡ Some y → x ≤ m → step m a b ≡ y
-step_there m None b x y e e' le = absurd (cc)
-step_there m (Some u) None x y e e' le = absurd (cc)
 step_there m (Some u) (Some v) x y e e' le =
     let same : u ≡ x = cc in
     let value : v ≡ y = cc in
     ap (λ t. if t then 0 else v) (test_past m u (omega (arith, same, le))) ∙ value
+step_there m a b x y e e' le = absurd (cc)
 
 step_least : (m c : ℕ) (a b : Option ℕ) → ((x y : ℕ) → a ≡ Some x → b ≡ Some y → x ≤ m → y ≤ c) → step m a b ≤ c
-step_least m c None b h = omega arith
-step_least m c (Some x) None h = omega arith
 step_least m c (Some x) (Some y) h = elim (cases_lt m x) [
   | inl less ↦
       let e : step m (Some x) (Some y) ≡ 0 = ap (λ t. if t then 0 else y) (lt-ltb m x less) in
       subst (λ n. n ≤ c) (sym e) (omega arith)
   | inr past ↦ subst (λ n. n ≤ c) (sym (step_there m (Some x) (Some y) x y refl refl past)) (h x y refl refl past)
 ]
+step_least m c a b h = omega arith
 
 -- ---- all pairs of numbers
 
@@ -67,17 +65,14 @@ reach k (p ∷ people) (q ∷ others) m = max (step m (number_at k p) (number_at
 pub reach_least : (k : ℕ) (people others : List Person) (m c : ℕ)
     → ((j : ℕ) (p q : Person) (x y : ℕ) → slice_get people j ≡ Some p → slice_get others j ≡ Some q → number_at k p ≡ Some x → number_at k q ≡ Some y → x ≤ m → y ≤ c)
     → reach k people others m ≤ c
-reach_least k [] others m c h = omega arith
-reach_least k (p ∷ people) [] m c h = omega arith
 reach_least k (p ∷ people) (q ∷ others) m c h =
     let first = step_least m c (number_at k p) (number_at k q) (λ x y. h 0 p q x y refl refl) in
     let rest = reach_least k people others m c (λ j. h (suc j)) in
     omega (arith, first, rest)
+reach_least k people others m c h = omega arith
 
 pub reach_there : (k : ℕ) (people others : List Person) (m j : ℕ) (p q : Person) (x y : ℕ) → slice_get people j ≡ Some p → slice_get others j ≡ Some q
     → number_at k p ≡ Some x → number_at k q ≡ Some y → x ≤ m → y ≤ reach k people others m
-reach_there k [] others m j p q x y at at' e e' le = absurd (cc)
-reach_there k (a ∷ people) [] m j p q x y at at' e e' le = absurd (cc)
 reach_there k (a ∷ people) (b ∷ others) m zero p q x y at at' e e' le =
     let one : a ≡ p = cc in
     let two : b ≡ q = cc in
@@ -86,6 +81,7 @@ reach_there k (a ∷ people) (b ∷ others) m zero p q x y at at' e e' le =
 reach_there k (a ∷ people) (b ∷ others) m (suc j) p q x y at at' e e' le =
     let rest = reach_there k people others m j p q x y at at' e e' le in
     omega (arith, rest)
+reach_there k people others m j p q x y at at' e e' le = absurd (cc)
 
 -- ---- the new numbers
 

@@ -39,23 +39,19 @@ pub record AreLaws : Type 0 where
 as_many : (table : SeatTable) (people others : List Person) (lists : List (List ProgId)) (seeks : List Seek) → length others ≡ length people
     → length (seekers_of table others lists seeks) ≡ length (seekers_of table people lists seeks)
 as_many table [] [] lists seeks full = refl
-as_many table [] (o ∷ others) lists seeks full = absurd (omega (arith, full))
-as_many table (p ∷ people) [] lists seeks full = absurd (omega (arith, full))
-as_many table (p ∷ people) (o ∷ others) [] seeks full = refl
-as_many table (p ∷ people) (o ∷ others) (l ∷ lists) [] full = refl
 as_many table (p ∷ people) (o ∷ others) (l ∷ lists) (q ∷ seeks) full = ap suc (as_many table people others lists seeks (omega (arith, full)))
+as_many table (p ∷ people) (o ∷ others) lists seeks full = refl
+as_many table people others lists seeks full = absurd (omega (arith, full))
 
 same_at : (table : SeatTable) (people others : List Person) (lists : List (List ProgId)) (seeks : List Seek) (j : ℕ) → length others ≡ length people → slice_get others j ≡ slice_get people j
     → slice_get (seekers_of table others lists seeks) j ≡ slice_get (seekers_of table people lists seeks) j
 same_at table [] [] lists seeks j full same = refl
-same_at table [] (o ∷ others) lists seeks j full same = absurd (omega (arith, full))
-same_at table (p ∷ people) [] lists seeks j full same = absurd (omega (arith, full))
-same_at table (p ∷ people) (o ∷ others) [] seeks j full same = refl
-same_at table (p ∷ people) (o ∷ others) (l ∷ lists) [] j full same = refl
 same_at table (p ∷ people) (o ∷ others) (l ∷ lists) (q ∷ seeks) zero full same =
     let one : o ≡ p = cc in
     ap (λ (z : Person). slice_get (seekers_of table (z ∷ people) (l ∷ lists) (q ∷ seeks)) zero) one
 same_at table (p ∷ people) (o ∷ others) (l ∷ lists) (q ∷ seeks) (suc j) full same = same_at table people others lists seeks j (omega (arith, full)) same
+same_at table (p ∷ people) (o ∷ others) lists seeks j full same = refl
+same_at table people others lists seeks j full same = absurd (omega (arith, full))
 
 -- a programme that admits the person before admits the person after
 improved : AreLaws → (version : ℕ) (table : SeatTable) (i : ℕ) (before after : Person) (people others : List Person) → AreSeats table → OneIsBetterOff table i before after people others

@@ -59,24 +59,18 @@ module _ (rule : Rule) (MayApply : ℕ → List Person → Type 0) (well : Choos
       | inr apart ↦ inr (let other = get_set_other seekers i j (with_list s front) apart in cc)
     ]
 
-    tells : TellsAnother i seekers told
-    tells = record {
-      same = length-set seekers i (with_list s front);
-      others = λ j apart. get_set_other seekers i j (with_list s front) apart;
-      person = λ a b at at'. same_person i a b at at';
-    }
-      where
-        same_person : (j : ℕ) (a b : Seeker) → slice_get seekers j ≡ Some a → slice_get told j ≡ Some b → a.person ≡ b.person
-        same_person j a b at at' = elim (by_place j a b at at') [
-          | inl t ↦ ap (λ (z : Seeker). z.person) t.before ∙ ap (λ (z : Seeker). z.person) (sym t.after)
-          | inr same ↦ ap (λ (z : Seeker). z.person) same
-        ]
-
     persons : (j : ℕ) (a b : Seeker) → slice_get seekers j ≡ Some a → slice_get told j ≡ Some b → a.person ≡ b.person
     persons j a b at at' = elim (by_place j a b at at') [
       | inl t ↦ ap (λ (z : Seeker). z.person) t.before ∙ ap (λ (z : Seeker). z.person) (sym t.after)
       | inr same ↦ ap (λ (z : Seeker). z.person) same
     ]
+
+    tells : TellsAnother i seekers told
+    tells = record {
+      same = length-set seekers i (with_list s front);
+      others = λ j apart. get_set_other seekers i j (with_list s front) apart;
+      person = persons i;
+    }
 
     told_market : IsMarket MayApply count told
     told_market = narrows_market rule MayApply well count seekers told market (record {

@@ -1,5 +1,5 @@
 -- With other numbers in the same order the best fair seats are the same.
-use Rattle.std.proofs.Common.{◌≡◌, ◌<◌, ◌≤◌, ℕ, List, [], ◌∷◌, Option, Some, length, map, refl, sym, ap, ◌∙◌, subst}
+use Rattle.std.proofs.Common.{◌≡◌, ◌<◌, ◌≤◌, ℕ, List, ◌∷◌, Option, Some, length, map, refl, sym, ap, ◌∙◌, subst}
 use Rattle.std.specs.Prelude.{◌↔◌, slice_get}
 use Rattle.std.proofs.lemmas.List.{length-map}
 use Rattle.office_base.specs.declared.asks.Seat.{Seat}
@@ -27,15 +27,12 @@ renumbered f s = record { person = f s.person; list = s.list }
 
 pub seekers_map : (f : Person → Person) (table : SeatTable) (people : List Person) (lists : List (List ProgId)) (seeks : List Seek)
     → seekers_of table (map f people) lists seeks ≡ map (renumbered f) (seekers_of table people lists seeks)
-seekers_map f table [] lists seeks = refl
-seekers_map f table (person ∷ people) [] seeks = refl
-seekers_map f table (person ∷ people) (list ∷ lists) [] = refl
 seekers_map f table (person ∷ people) (list ∷ lists) (seek ∷ seeks) = ap (λ l. record { person = f person; list = seek_leaves table seek list } ∷ l) (seekers_map f table people lists seeks)
+seekers_map f table people lists seeks = refl
 
 applicants_map : (f : Person → Person) (p : ℕ) (seekers : List Seeker) (seats : List (Option Seat)) → applicants p (map (renumbered f) seekers) seats ≡ map f (applicants p seekers seats)
-applicants_map f p [] seats = refl
-applicants_map f p (s ∷ seekers) [] = refl
 applicants_map f p (s ∷ seekers) (seat ∷ seats) = filter_if f (applies p s.list seat) (applies p s.list seat) s.person _ _ refl (applicants_map f p seekers seats)
+applicants_map f p seekers seats = refl
 
 module _ (exists : ProgrammeChoiceExists) (one : OneProgrammeChoice) (well : ProgrammesChooseWell) (version : ℕ) (table : SeatTable) (ok : AreSeats table) (g : CandId → CandId) (f : Person → Person)
     (keeps : KeepsOrder g f) (seekers : List Seeker) (here : IsMarket (MayApplyIn table) (length table.programmes) seekers)

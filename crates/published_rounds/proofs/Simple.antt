@@ -26,9 +26,6 @@ use Rattle.published_rounds.specs.Simple.{AreBestHolders, HoldOneAtMost, IsOneOf
 abbrev pub one_if : Bool → ℕ
 one_if b = if b then 1 else 0
 
-one_for : (b : Bool) → IsTrue b → one_if b ≡ 1
-one_for b h = ap one_if h
-
 -- every pair of this candidate is on the trait
 abbrev OnlyOn : ℕ → CandId → List Pair → Type 0
 OnlyOn t cand pairs = AllByRecursion (λ pair. pair.cand ≡ cand → pair.slot ≡ t) pairs
@@ -121,7 +118,7 @@ module _ (protections : Protections) where
       | inl on ↦
           let was = are.few t in
           let one = on.1 in
-          let holds = one_for (has_trait person.traits t) (subst (λ z. IsTrue (has_trait person.traits z)) on.0 best.1) in
+          let holds : one_if (has_trait person.traits t) ≡ 1 = ap one_if (subst (λ z. IsTrue (has_trait person.traits z)) on.0 best.1) in
           omega (arith, was, one, holds)
       | inr off ↦ let was = are.few t in omega (arith, was, off)
     ];
@@ -202,7 +199,7 @@ module _ (protections : Protections) where
           let t = found.0.slot in
           let full : protected protections t ≤ holders_of t better = elim (cases_lt (holders_of t better) (protected protections t)) [ inl less ↦ absurd (not (t, its.0, less)) | inr past ↦ past ] in
           let have = are.enough t its.1 in
-          let mine = one_for (has_trait person.traits t) its.0 in
+          let mine : one_if (has_trait person.traits t) ≡ 1 = ap one_if its.0 in
           let room = can.1.within t in
           let counted = holders_placed t (person ∷ chosen) can.0 distinct
           (all_from (λ (q : Person). IsTrue (has_trait q.traits t) → Stands q.id can.0 × OnlyOn t q.id can.0) (person ∷ chosen)
@@ -217,8 +214,6 @@ module _ (protections : Protections) where
       → AllByRecursion (λ person. AllByRecursion (λ other. person.id ≢ other.id) chosen) people → AreAmong chosen all → AreAmong people all → AreBestHolders protections better people marks
       → AreMarkedByHand protections chosen people marks
   by_hand_too all one better chosen [] [] are distinct apart among more told = tt
-  by_hand_too all one better chosen [] (mark ∷ marks) are distinct apart among more told = absurd told
-  by_hand_too all one better chosen (person ∷ people) [] are distinct apart among more told = absurd told
   by_hand_too all one better chosen (person ∷ people) (true ∷ marks) are distinct apart among more told =
       let best = told.0.0 refl in
       let now = take person better chosen are apart.0 best in
@@ -242,6 +237,7 @@ module _ (protections : Protections) where
             (cannot all person better chosen one are apart.0 (more.0, among) not))),
         by_hand_too all one (person ∷ better) chosen people marks (leave person better chosen are not) distinct.1 apart.1 among more.1 told.1,
       )
+  by_hand_too all one better chosen people marks are distinct apart among more told = absurd told
 
 nobody_marked : (protections : Protections) → AreMarked protections [] []
 nobody_marked protections = record {

@@ -1,15 +1,14 @@
 -- Each round is the best allocation on the whole lists of those who stay, from round to round.
-use Rattle.std.proofs.Common.{◌≡◌, ◌≢◌, ◌≤◌, ◌⊎◌, inl, inr, ℕ, zero, suc, true, false, List, [], ◌∷◌, Option, Some, None, length, map, take, arith, refl, sym, ap, ◌∙◌, subst}
+use Rattle.std.proofs.Common.{◌≡◌, ◌≢◌, ◌≤◌, ◌⊎◌, inl, inr, ℕ, zero, suc, true, false, List, [], Option, Some, None, length, map, take, arith, refl, sym, ap, ◌∙◌, subst}
 use Rattle.std.specs.Prelude.{slice_get, option_map, IsSome}
 use Rattle.std.proofs.lemmas.List.{length-map}
 use Rattle.std.proofs.lemmas.Option.{slice_get_within}
-use Rattle.office_base.specs.Lists.{IsAmong}
 use Rattle.office_base.specs.declared.asks.Choice.{Choice}
-use Rattle.office_base.specs.declared.asks.Choice.TheVariants.{Freeze as ToFreeze, Float as ToFloat, Slide as ToSlide, Withdraw as ToWithdraw}
+use Rattle.office_base.specs.declared.asks.Choice.TheVariants.{Withdraw as ToWithdraw}
 use Rattle.office_base.specs.declared.asks.Seat.{Seat}
 use Rattle.office_base.specs.declared.person.Person.{Person}
 use Rattle.office_base.specs.declared.person.ProgId.{ProgId}
-use Rattle.office_base.proofs.Lists.{there_is}
+use Rattle.office_base.proofs.Lists.{at_among, there_is}
 use Rattle.allocations.specs.Fair.{IsBest}
 use Rattle.allocations.specs.Market.{Seeker, place_of, rank_of}
 use Rattle.choice_lists.specs.Choices.{list_of}
@@ -18,13 +17,13 @@ use Rattle.seeks.specs.Seek.{seek_leaves}
 use Rattle.seeks.specs.declared.seek.Seek.{Seek}
 use Rattle.seeks.specs.declared.seek.Seek.TheVariants.{Whole, Nothing}
 use Rattle.seeks.proofs.Left.{left_nothing, left_up_to, left_whole}
-use Rattle.rounds.specs.Rule.{AreEntrants, MayApplyIn, ProgrammesChooseWell, rule_of, seekers_of}
+use Rattle.rounds.specs.Rule.{MayApplyIn, ProgrammesChooseWell, rule_of, seekers_of}
 use Rattle.rounds.specs.declared.round.Round.{Round}
 use Rattle.rounds.proofs.Entrants.{entered, length_seekers, market}
 use Rattle.round_laws.specs.Laws.{MoreSeatsHurtNobody, SomeSeekNothing}
 use Rattle.round_options.specs.Options.{after_cut, holds, may_follow, seek_after, standing_of}
 use Rattle.round_options.specs.declared.standing.Standing.{Standing}
-use Rattle.round_options.specs.declared.standing.Standing.TheVariants.{Waiting, Offered, Freeze, Float, Slide, Withdrawn, NoShow}
+use Rattle.round_options.specs.declared.standing.Standing.TheVariants.{Waiting, Freeze, Float, Slide}
 use Rattle.office_moves.specs.Facts.{IsSound, SeasonFacts, lists_in_order}
 use Rattle.office_moves.specs.History.{Reaches}
 use Rattle.office_moves.specs.Promise.{all_sought_then, sought_then, standing_then}
@@ -32,10 +31,12 @@ use Rattle.office_moves.specs.State.{State, opening, seat_in}
 use Rattle.office_moves.specs.declared.moves.Entry.{Entry}
 use Rattle.history_laws.specs.Course.{IsCourse}
 use Rattle.history_laws.specs.Orderly.{IsOrderly}
-use Rattle.history_laws.proofs.Entering.{entrants, list_there, lists_full}
-use Rattle.history_laws.proofs.Fits.{map_at, seat_there}
+use Rattle.history_laws.proofs.Entering.{list_there, lists_full}
+use Rattle.history_laws.proofs.Fits.{full_seekers, map_at, seat_there}
 use Rattle.published_rounds.specs.Published.{market_then, matrix_then}
 use Rattle.published_rounds.specs.WholeListLaws.{EverybodyFloats, RoundsLeaveNoTrace, all_whole_then, whole_if_staying}
+use Rattle.published_rounds.proofs.Numbered.{map_back}
+use Rattle.published_rounds.proofs.Places.{made_then, may_enter}
 use Rattle.published_rounds.proofs.Fronts.{AreFronts, DoNoWorse, fronts_are_best}
 
 -- the laws on which this rests
@@ -53,12 +54,8 @@ Answers left standing seat = (standing ≡ left) ⊎ ((choice : Choice) × (may_
 -- all or nothing is sought
 all_or_nothing : (standing : Standing) → (whole_if_staying standing ≡ Whole) ⊎ (whole_if_staying standing ≡ Nothing)
 all_or_nothing Waiting = inl refl
-all_or_nothing Offered = inr refl
-all_or_nothing Freeze = inr refl
 all_or_nothing Float = inl refl
-all_or_nothing Slide = inr refl
-all_or_nothing Withdrawn = inr refl
-all_or_nothing NoShow = inr refl
+all_or_nothing standing = inr refl
 
 -- a candidate who is out stays out
 stays_out : (left standing : Standing) (seat : Option Seat) → ((choice : Choice) → may_follow left choice ≡ false) → whole_if_staying left ≡ Nothing → Answers left standing seat
@@ -69,12 +66,10 @@ stays_out left standing seat none out (inr c) = absurd (let no = none c.0 in let
 after : (then standing : Standing) (seat other : Option Seat) → then ≢ Freeze → then ≢ Slide → Answers (after_cut then seat) standing other
     → (whole_if_staying standing ≡ whole_if_staying then) ⊎ (whole_if_staying standing ≡ Nothing)
 after Waiting standing seat other not_frozen not_slid answered = all_or_nothing standing
-after Offered standing seat other not_frozen not_slid answered = inr (stays_out NoShow standing other (λ choice. refl) refl answered)
 after Freeze standing seat other not_frozen not_slid answered = absurd (not_frozen refl)
 after Float standing seat other not_frozen not_slid answered = all_or_nothing standing
 after Slide standing seat other not_frozen not_slid answered = absurd (not_slid refl)
-after Withdrawn standing seat other not_frozen not_slid answered = inr (stays_out Withdrawn standing other (λ choice. refl) refl answered)
-after NoShow standing seat other not_frozen not_slid answered = inr (stays_out NoShow standing other (λ choice. refl) refl answered)
+after then standing seat other not_frozen not_slid answered = inr (stays_out (after_cut then seat) standing other (λ choice. refl) refl answered)
 
 -- before the first round everybody waits, or has left
 first_sought : (standing : Standing) (seat : Option Seat) (place : Option ℕ) → Answers Waiting standing seat → seek_after standing place ≡ whole_if_staying standing
@@ -82,21 +77,12 @@ first_sought standing seat place (inl same) = ap (λ s. seek_after s place) same
 first_sought standing seat place (inr (choice, may, is, more)) = by_choice choice may is
   where
     by_choice : (choice : Choice) → may_follow Waiting choice ≡ true → standing ≡ standing_of choice → seek_after standing place ≡ whole_if_staying standing
-    by_choice ToFreeze may is = absurd (cc)
-    by_choice ToFloat may is = absurd (cc)
-    by_choice ToSlide may is = absurd (cc)
     by_choice ToWithdraw may is = ap (λ s. seek_after s place) is ∙ sym (ap whole_if_staying is)
-
-among_at : (people : List Person) (i : ℕ) (person : Person) → slice_get people i ≡ Some person → IsAmong person people
-among_at [] i person at = absurd (cc)
-among_at (x ∷ people) zero person at = inl (let same : x ≡ person = cc in sym same)
-among_at (x ∷ people) (suc i) person at = inr (among_at people i person at)
+    by_choice choice may is = absurd (cc)
 
 rank_nil : (seat other : Option Seat) → rank_of [] seat ≤ rank_of [] other
-rank_nil None None = omega arith
-rank_nil None (Some y) = omega arith
-rank_nil (Some x) None = omega arith
-rank_nil (Some x) (Some y) = omega arith
+rank_nil None other = omega arith
+rank_nil (Some x) other = omega arith
 
 -- ---- the whole lists of those who stay
 
@@ -109,10 +95,6 @@ abbrev IsBestOnWhole : SeasonFacts → State → ℕ → Round → Type 0
 IsBestOnWhole facts state window round =
     IsBest (rule_of facts.version (matrix_then facts state window)) (length (matrix_then facts state window).programmes) (staying facts (matrix_then facts state window) state window) round.seats
 
-made : (facts : SeasonFacts) (state : State) (window : ℕ) (round : Round) → IsCourse facts state → slice_get state.rounds window ≡ Some round
-    → IsBest (rule_of facts.version (matrix_then facts state window)) (length (matrix_then facts state window).programmes) (market_then facts state window) round.seats
-made facts state window round course is = (course.made window round is).best
-
 -- the first round
 at_first : (facts : SeasonFacts) (state : State) (round : Round) → IsCourse facts state → slice_get state.rounds 0 ≡ Some round → IsBestOnWhole facts state 0 round
 at_first facts state round course is =
@@ -121,7 +103,7 @@ at_first facts state round course is =
     (option_map (λ (seat : Seat). place_of (list_of facts.lists id) seat.prog.0) (seat_in facts state.rounds 0 id)) (course.answers 0 id) in
     let same : all_sought_then facts state 0 ≡ all_whole_then facts state 0 = λ j. map (λ (person : Person). each person.id.0 j) facts.people in
     subst (λ (seeks : List Seek). IsBest (rule_of facts.version table) (length table.programmes) (seekers_of table facts.people (lists_in_order facts) seeks) round.seats) same
-    (made facts state 0 round course is)
+    (made_then facts state 0 round course is).best
 
 -- ---- from one round to the next
 
@@ -140,25 +122,17 @@ module _ (laws : AreLaws) (facts : SeasonFacts) (state : State) (window : ℕ) (
   abbrev now : List Seeker
   now = market_then facts state (suc window)
 
-  enter : AreEntrants more facts.people (lists_in_order facts)
-  enter = entrants facts more sound (orderly.course.programmes (suc (suc window)))
-
   full_stay : (at : ℕ) (any : SeatTable) → length (staying facts any state at) ≡ length facts.people
   full_stay at any =
       length_seekers any facts.people (lists_in_order facts) (all_whole_then facts state at) (lists_full facts sound)
       (length-map facts.people (λ (q : Person). whole_if_staying (standing_then facts state at q.id.0)) ∙ sym (lists_full facts sound))
-
-  full_now : length now ≡ length facts.people
-  full_now =
-      length_seekers more facts.people (lists_in_order facts) (all_sought_then facts state (suc window)) (lists_full facts sound)
-      (length-map facts.people (λ (q : Person). sought_then facts state (suc window) q.id.0) ∙ sym (lists_full facts sound))
 
   -- one of the people still seeks the whole list, or nothing
   came : (i : ℕ) (person : Person) → slice_get facts.people i ≡ Some person
       → (whole_if_staying (standing_then facts state (suc window) person.id.0) ≡ whole_if_staying (standing_then facts state window person.id.0))
       ⊎ (whole_if_staying (standing_then facts state (suc window) person.id.0) ≡ Nothing)
   came i person at =
-      let f = floats window person (omega arith) (among_at facts.people i person at) in
+      let f = floats window person (omega arith) (at_among facts.people i person at) in
       let seat = seat_in facts state.rounds (suc window) person.id.0 in
       after (standing_then facts state window person.id.0) (standing_then facts state (suc window) person.id.0) seat seat f.0 f.1 (orderly.course.answers (suc window) person.id.0)
 
@@ -171,12 +145,9 @@ module _ (laws : AreLaws) (facts : SeasonFacts) (state : State) (window : ℕ) (
     as_many = length-map facts.people (λ (q : Person). whole_if_staying (standing_then facts state (suc window) q.id.0))
         ∙ sym (length-map facts.people (λ (q : Person). whole_if_staying (standing_then facts state window q.id.0)));
     each = λ i seek next at at'.
-        let less = slice_get_within (all_whole_then facts state window) i seek at in
-        let size = length-map facts.people (λ (q : Person). whole_if_staying (standing_then facts state window q.id.0)) in
-        let person = there_is facts.people i (omega (arith, less, size)) in
-        let first : seek ≡ whole_if_staying (standing_then facts state window person.0.id.0) = (let e = sought_whole window i person.0 person.1 in cc) in
+        let person = map_back (λ (q : Person). whole_if_staying (standing_then facts state window q.id.0)) facts.people i seek at in
         let second : next ≡ whole_if_staying (standing_then facts state (suc window) person.0.id.0) = (let e = sought_whole (suc window) i person.0 person.1 in cc) in
-        elim (came i person.0 person.1) [ inl same ↦ inl (second ∙ (same ∙ sym first)) | inr none ↦ inr (second ∙ none) ];
+        elim (came i person.0 person.1) [ inl same ↦ inl (second ∙ (same ∙ sym person.2)) | inr none ↦ inr (second ∙ none) ];
   }
 
   -- a seeker by the whole lists
@@ -204,7 +175,7 @@ module _ (laws : AreLaws) (facts : SeasonFacts) (state : State) (window : ℕ) (
             ] in
             let result = laws.more_seats facts.version table more facts.people (lists_in_order facts) (all_whole_then facts state window) (all_whole_then facts state (suc window)) prev.seats others i
             st.list Whole seat other (orderly.course.seats (suc window)) (orderly.course.seats (suc (suc window))) (orderly.course.raised (suc window))
-            (entrants facts table sound (orderly.course.programmes (suc window))) some_nothing st.list_at (sought_whole window i t.person st.person_at ∙ ap Some same)
+            (may_enter facts state window sound orderly.course) some_nothing st.list_at (sought_whole window i t.person st.person_at ∙ ap Some same)
             (sought_whole (suc window) i t.person st.person_at ∙ ap Some all) before.fair best has has' in
             let by_list : rank_of st.list other ≤ rank_of st.list seat = subst (λ l. rank_of l other ≤ rank_of l seat) (left_whole table st.list 0 st.list) result in
             let list : t.list ≡ st.list = st.leaves ∙ (ap (λ q. seek_leaves more q st.list) all ∙ left_whole more st.list 0 st.list) in
@@ -219,12 +190,8 @@ module _ (laws : AreLaws) (facts : SeasonFacts) (state : State) (window : ℕ) (
       → list_of facts.lists t.person.id.0 ≡ list → standing_then facts state (suc window) t.person.id.0 ≡ standing → t.list ≡ seek_leaves more (whole_if_staying standing) list
       → c.list ≡ seek_leaves more (seek_after standing (option_map (λ (held : Seat). place_of (list_of facts.lists t.person.id.0) held.prog.0) (seat_in facts state.rounds (suc window) t.person.id.0))) list
       → (c.list ≡ t.list) ⊎ (c.list ≡ take (suc (rank_of t.list seat)) t.list)
-  front_of Waiting i t c seat list at has own stands all sought = inl (sought ∙ sym all)
-  front_of Offered i t c seat list at has own stands all sought = inl (sought ∙ sym all)
-  front_of Withdrawn i t c seat list at has own stands all sought = inl (sought ∙ sym all)
-  front_of NoShow i t c seat list at has own stands all sought = inl (sought ∙ sym all)
-  front_of Freeze i t c seat list at has own stands all sought = absurd ((floats (suc window) t.person (omega arith) (among_at facts.people i t.person at)).0 stands)
-  front_of Slide i t c seat list at has own stands all sought = absurd ((floats (suc window) t.person (omega arith) (among_at facts.people i t.person at)).1 stands)
+  front_of Freeze i t c seat list at has own stands all sought = absurd ((floats (suc window) t.person (omega arith) (at_among facts.people i t.person at)).0 stands)
+  front_of Slide i t c seat list at has own stands all sought = absurd ((floats (suc window) t.person (omega arith) (at_among facts.people i t.person at)).1 stands)
   front_of Float i t c seat list at has own stands all sought =
       let id = t.person.id.0 in
       let held = orderly.word.nobody_falls (suc window) id (slice_get_within state.rounds (suc window) round is') (ap holds stands) in
@@ -237,10 +204,11 @@ module _ (laws : AreLaws) (facts : SeasonFacts) (state : State) (window : ℕ) (
       let its : t.list ≡ list = all ∙ left_whole more list 0 list in
       let rank : rank_of t.list seat ≡ k = ap (λ o. rank_of t.list o) mine ∙ ap (λ l. place_of l old.prog.0) its in
       inr (up ∙ (ap (λ n. take (suc n) list) (sym rank) ∙ ap (λ l. take (suc (rank_of t.list seat)) l) (sym its)))
+  front_of standing i t c seat list at has own stands all sought = inl (sought ∙ sym all)
 
   fronts : AreFronts whole now prev.seats
   fronts = record {
-    same = full_now ∙ sym (full_stay (suc window) more);
+    same = full_seekers facts state (suc window) sound ∙ sym (full_stay (suc window) more);
     full = before.fair.allocation.full ∙ (full_stay window table ∙ sym (full_stay (suc window) more));
     persons = λ i t c there there'.
         let a = (stays_at i t there).person_at in
@@ -263,9 +231,9 @@ module _ (laws : AreLaws) (facts : SeasonFacts) (state : State) (window : ℕ) (
   next_best : IsBestOnWhole facts state (suc window) round
   next_best =
       fronts_are_best (rule_of facts.version more) (MayApplyIn more) (length more.programmes) (laws.well facts.version more (orderly.course.seats (suc (suc window)))) whole now prev.seats round.seats
-      (market more facts.people (lists_in_order facts) (all_whole_then facts state (suc window)) (orderly.course.seats (suc (suc window))) enter)
-      (market more facts.people (lists_in_order facts) (all_sought_then facts state (suc window)) (orderly.course.seats (suc (suc window))) enter)
-      fronts no_worse (made facts state (suc window) round orderly.course is')
+      (market more facts.people (lists_in_order facts) (all_whole_then facts state (suc window)) (orderly.course.seats (suc (suc window))) (may_enter facts state (suc window) sound orderly.course))
+      (market more facts.people (lists_in_order facts) (all_sought_then facts state (suc window)) (orderly.course.seats (suc (suc window))) (may_enter facts state (suc window) sound orderly.course))
+      fronts no_worse (made_then facts state (suc window) round orderly.course is').best
 
 best_on_whole : AreLaws → (facts : SeasonFacts) (state : State) (window : ℕ) (round : Round) → IsSound facts → IsOrderly facts state → slice_get state.rounds window ≡ Some round
     → EverybodyFloats facts state window → IsBestOnWhole facts state window round
