@@ -1,7 +1,7 @@
 -- Distinct people have a canonical certificate: the first of the longest placements, down the people.
-use Rattle.std.proofs.Common.{◌≡◌, ◌≤◌, ◌<◌, ◌+◌, ◌⊎◌, inl, inr, ℕ, zero, suc, Bool, true, false, List, [], ◌∷◌, Option, Some, None, length, arith, refl, sym, ap, ◌∙◌, subst}
+use Rattle.std.proofs.Common.{◌≡◌, ◌≤◌, ◌<◌, ◌+◌, ◌⊎◌, inl, inr, ℕ, zero, suc, List, [], ◌∷◌, Option, Some, None, length, arith, refl, sym, ap, ◌∙◌, subst}
 use Rattle.std.specs.Prelude.{IsTrue}
-use Rattle.std.proofs.lemmas.Bool.{cases_Bool, cases_lt}
+use Rattle.std.proofs.lemmas.Bool.{cases_Bool, cases_lt, false≢true}
 use Rattle.office_base.specs.Certificate.{AreNoLater, IsCanonical, slots_of}
 use Rattle.office_base.specs.Person.{has_trait}
 use Rattle.office_base.specs.Placement.{protected}
@@ -56,14 +56,15 @@ nowhere protections person people rest h = record {
     first_of (Some t ∷ others) from are same =
         absurd (let left = counted_trait protections t (AreSlots-from_somewhere protections person people t others are).1 in omega (arith, left, from))
 
--- a trait on which the person cannot stand changes nothing
+-- a trait on which the person cannot stand, or places fewer, changes nothing
 passed : (bound : ℕ) (protections : Protections) (person : Person) (people : List Person) (slots : List (Option ℕ)) → IsFirstFrom (suc bound) protections (person ∷ people) slots
-    → ((others : List (Option ℕ)) → AreSlots protections (person ∷ people) (Some bound ∷ others) → ⊥) → IsFirstFrom bound protections (person ∷ people) slots
-passed bound protections person people slots h none = record {
+    → ((others : List (Option ℕ)) → AreSlots protections (person ∷ people) (Some bound ∷ others) → suc (filled others) < filled slots)
+    → IsFirstFrom bound protections (person ∷ people) slots
+passed bound protections person people slots h fewer = record {
   stand = h.stand;
   from = lower slots h.from;
-  most = λ others from are. h.most others (higher others from are) are;
-  first = λ others from are same. h.first others (higher others from are) are same;
+  most = most_of;
+  first = first_of;
 }
   where
     lower : (slots : List (Option ℕ)) → StandsFrom (suc bound) slots → StandsFrom bound slots
@@ -71,12 +72,23 @@ passed bound protections person people slots h none = record {
     lower (None ∷ slots) from = tt
     lower (Some t ∷ slots) from = omega (arith, from)
 
-    higher : (others : List (Option ℕ)) → StandsFrom bound others → AreSlots protections (person ∷ people) others → StandsFrom (suc bound) others
-    higher [] from are = from
-    higher (None ∷ others) from are = tt
-    higher (Some t ∷ others) from are = elim (cases_lt bound t) [
-      | inl less ↦ omega (arith, less)
-      | inr high ↦ absurd (none others (subst (λ k. AreSlots protections (person ∷ people) (Some k ∷ others)) (let same : t ≡ bound = omega (arith, high, from) in same) are))
+    on_it : (t : ℕ) (others : List (Option ℕ)) → t ≤ bound → bound ≤ t → AreSlots protections (person ∷ people) (Some t ∷ others) → suc (filled others) < filled slots
+    on_it t others high from are = fewer others (subst (λ k. AreSlots protections (person ∷ people) (Some k ∷ others)) (let same : t ≡ bound = omega (arith, high, from) in same) are)
+
+    most_of : (others : List (Option ℕ)) → StandsFrom bound others → AreSlots protections (person ∷ people) others → filled others ≤ filled slots
+    most_of [] from are = absurd from
+    most_of (None ∷ others) from are = h.most (None ∷ others) tt are
+    most_of (Some t ∷ others) from are = elim (cases_lt bound t) [
+      | inl more ↦ h.most (Some t ∷ others) more are
+      | inr high ↦ let less = on_it t others high from are in omega (arith, less)
+    ]
+
+    first_of : (others : List (Option ℕ)) → StandsFrom bound others → AreSlots protections (person ∷ people) others → filled others ≡ filled slots → AreNoLater slots others
+    first_of [] from are e = absurd from
+    first_of (None ∷ others) from are e = h.first (None ∷ others) tt are e
+    first_of (Some t ∷ others) from are e = elim (cases_lt bound t) [
+      | inl more ↦ h.first (Some t ∷ others) more are e
+      | inr high ↦ absurd (let less = on_it t others high from are in omega (arith, less, e))
     ]
 
 -- the person is on the trait, if that places no fewer
@@ -115,35 +127,6 @@ module _ (bound : ℕ) (protections : Protections) (person : Person) (people : L
         | inr more ↦ inl more
       ]
 
-  not_taken : suc (filled rest) < filled slots → IsFirstFrom bound protections (person ∷ people) slots
-  not_taken fewer = record {
-    stand = h.stand;
-    from = lower slots h.from;
-    most = most_of;
-    first = first_of;
-  }
-    where
-      lower : (slots : List (Option ℕ)) → StandsFrom (suc bound) slots → StandsFrom bound slots
-      lower [] from = from
-      lower (None ∷ slots) from = tt
-      lower (Some t ∷ slots) from = omega (arith, from)
-
-      most_of : (others : List (Option ℕ)) → StandsFrom bound others → AreSlots protections (person ∷ people) others → filled others ≤ filled slots
-      most_of [] from are = absurd from
-      most_of (None ∷ others) from are = h.most (None ∷ others) tt are
-      most_of (Some t ∷ others) from are = elim (later t from) [
-        | inl same ↦ let le = r.most others (on_it t others same are) in omega (arith, le, fewer)
-        | inr more ↦ h.most (Some t ∷ others) more are
-      ]
-
-      first_of : (others : List (Option ℕ)) → StandsFrom bound others → AreSlots protections (person ∷ people) others → filled others ≡ filled slots → AreNoLater slots others
-      first_of [] from are e = absurd from
-      first_of (None ∷ others) from are e = h.first (None ∷ others) tt are e
-      first_of (Some t ∷ others) from are e = elim (later t from) [
-        | inl same ↦ absurd (let le = r.most others (on_it t others same are) in omega (arith, le, fewer, e))
-        | inr more ↦ h.first (Some t ∷ others) more are e
-      ]
-
 -- one trait more
 one_more : (bound : ℕ) (protections : Protections) (person : Person) (people : List Person) (slots : List (Option ℕ)) → IsFirstFrom (suc bound) protections (person ∷ people) slots
     → ((room : Protections) → (rest : List (Option ℕ)) × IsFirst room people rest) → (better : List (Option ℕ)) × IsFirstFrom bound protections (person ∷ people) better
@@ -152,20 +135,15 @@ one_more bound protections person people slots h others = elim (cases_Bool (has_
     | inl left ↦
         let r = others (one_less protections bound) in
         elim (cases_lt (suc (filled r.0)) (filled slots)) [
-          | inl fewer ↦ (slots, not_taken bound protections person people slots r.0 h r.1 (holding (has_trait person.traits bound) holds) left fewer)
-          | inr enough ↦ (Some bound ∷ r.0, taken bound protections person people slots r.0 h r.1 (holding (has_trait person.traits bound) holds) left enough)
+          | inl fewer ↦
+              (slots, passed bound protections person people slots h (λ o are. let le = r.1.most o (AreSlots-from_somewhere protections person people bound o are).2 in omega (arith, le, fewer)))
+          | inr enough ↦ (Some bound ∷ r.0, taken bound protections person people slots r.0 h r.1 holds left enough)
         ]
     | inr none ↦ (slots, passed bound protections person people slots h (λ o are. let left = (AreSlots-from_somewhere protections person people bound o are).1 in omega (arith, left, none)))
   ]
   | inr lacks ↦
-      (slots, passed bound protections person people slots h (λ o are. lacking (has_trait person.traits bound) lacks (AreSlots-from_somewhere protections person people bound o are).0))
+      (slots, passed bound protections person people slots h (λ o are. absurd (false≢true (sym lacks ∙ (AreSlots-from_somewhere protections person people bound o are).0))))
 ]
-  where
-    holding : (b : Bool) → b ≡ true → IsTrue b
-    holding b e = e
-
-    lacking : (b : Bool) → b ≡ false → IsTrue b → ⊥
-    lacking b e h = (let no : false ≡ true = sym e ∙ h in absurd (cc))
 
 -- all traits, the last first
 all_traits : (k bound : ℕ) (protections : Protections) (person : Person) (people : List Person) → bound + k ≡ length protections.counts

@@ -1,10 +1,9 @@
 -- What was accepted in a season can be accepted window after window: the raises of a window in their order, then its answers in theirs, then its cut.
-use Rattle.std.proofs.Common.{◌≡◌, ◌≢◌, ◌≤◌, ◌<◌, ◌+◌, ◌++◌, ◌&&◌, ◌==◌, ◌⊎◌, ℕ, zero, suc, Bool, true, false, List, [], ◌∷◌, Option, Some, None, length, map, arith, refl, sym, ap, ◌∙◌, subst, if◌then◌else◌}
+use Rattle.std.proofs.Common.{◌≡◌, ◌≢◌, ◌≤◌, ◌<◌, ◌+◌, ◌++◌, ◌==◌, ℕ, zero, suc, Bool, true, List, [], ◌∷◌, Option, Some, None, length, map, arith, refl, sym, ap, ◌∙◌, subst, if◌then◌else◌, append-nil}
 use Rattle.std.specs.Prelude.{is_some}
-use Rattle.std.proofs.lemmas.Bool.{cond-false, eq-eqb, lt-ltb, ne_eqb}
-use Rattle.std.proofs.lemmas.List.{length-append}
+use Rattle.std.proofs.lemmas.Bool.{and_from, cond-false, eq-eqb, lt-ltb, ne_eqb}
+use Rattle.std.proofs.lemmas.List.{length-append, map-append}
 use Rattle.office_base.proofs.Lists.{get-before}
-use Rattle.office_base.specs.declared.asks.By.{By}
 use Rattle.office_base.specs.declared.asks.Seat.{Seat}
 use Rattle.kept_rows.specs.declared.rows.AllotRow.{AllotRow}
 use Rattle.kept_rows.specs.declared.rows.AnswerRow.{AnswerRow}
@@ -16,13 +15,13 @@ use Rattle.office_moves.specs.Decided.{decided}
 use Rattle.office_moves.specs.Moves.{IsMove, final_rows}
 use Rattle.office_moves.specs.History.{Reaches, asked, newly}
 use Rattle.office_moves.specs.Stands.{published_seat, raises_in, seat_in_finals}
-use Rattle.office_moves.specs.declared.decide.Decision.{Decision}
 use Rattle.office_moves.specs.declared.moves.Act.{Act}
 use Rattle.office_moves.specs.declared.moves.Act.TheVariants.{Answer, Raise, Cut}
 use Rattle.office_moves.specs.declared.moves.Entry.{Entry}
 use Rattle.office_moves.specs.declared.moves.Reply.{Reply}
 use Rattle.history_laws.proofs.Changes.{Answered, Change, Finishes, Publishes, Raised, changes}
 use Rattle.history_laws.proofs.Accepted.{is_open}
+use Rattle.history_laws.proofs.Rows.{lifted_when, window_append}
 use Rattle.replays.specs.Replay.{CutPasses, takes, takes_answer, takes_raise, with_act}
 
 -- ---- rows that are accepted one after another
@@ -62,53 +61,23 @@ raise_too facts row old new now raises taken =
 
 raises_append : (window : ℕ) (rows : List RaiseRow) (row : RaiseRow) → raises_in window (rows ++ row ∷ []) ≡ raises_in window rows ++ raises_in window (row ∷ [])
 raises_append window [] row = refl
-raises_append window (first ∷ rows) row = joined (first.window == window) (raises_append window rows row)
-  where
-    joined : (b : Bool) → raises_in window (rows ++ row ∷ []) ≡ raises_in window rows ++ raises_in window (row ∷ [])
-        → (if b then first ∷ raises_in window (rows ++ row ∷ []) else raises_in window (rows ++ row ∷ []))
-        ≡ (if b then first ∷ raises_in window rows else raises_in window rows) ++ raises_in window (row ∷ [])
-    joined true e = ap (λ l. first ∷ l) e
-    joined false e = e
-
-answers_append : (window : ℕ) (rows : List AnswerRow) (row : AnswerRow) → in_window window (rows ++ row ∷ []) ≡ in_window window rows ++ in_window window (row ∷ [])
-answers_append window [] row = refl
-answers_append window (first ∷ rows) row = joined (first.window == window) (answers_append window rows row)
-  where
-    joined : (b : Bool) → in_window window (rows ++ row ∷ []) ≡ in_window window rows ++ in_window window (row ∷ [])
-        → (if b then first ∷ in_window window (rows ++ row ∷ []) else in_window window (rows ++ row ∷ []))
-        ≡ (if b then first ∷ in_window window rows else in_window window rows) ++ in_window window (row ∷ [])
-    joined true e = ap (λ l. first ∷ l) e
-    joined false e = e
-
-chosen : {X : Type 0} (b : Bool) (x : X) → b ≡ true → (if b then x ∷ [] else []) ≡ x ∷ []
-chosen true x e = refl
-chosen false x e = absurd (cc)
-
-left_out : {X : Type 0} (b : Bool) (x : X) → b ≡ false → (if b then x ∷ [] else []) ≡ []
-left_out true x e = absurd (cc)
-left_out false x e = refl
-
-nil_after : {X : Type 0} (xs : List X) → xs ++ [] ≡ xs
-nil_after [] = refl
-nil_after (x ∷ xs) = ap (λ l. x ∷ l) (nil_after xs)
+raises_append window (first ∷ rows) row =
+    ap (λ (l : List RaiseRow). if first.window == window then first ∷ l else l) (raises_append window rows row)
+    ∙ lifted_when (first.window == window) first (raises_in window rows) (raises_in window (row ∷ []))
 
 raises_here : (window : ℕ) (rows : List RaiseRow) (row : RaiseRow) → row.window ≡ window → raises_in window (rows ++ row ∷ []) ≡ raises_in window rows ++ row ∷ []
-raises_here window rows row same = raises_append window rows row ∙ ap (λ l. raises_in window rows ++ l) (chosen (row.window == window) row (eq-eqb row.window window same))
+raises_here window rows row same = raises_append window rows row ∙ ap (λ b. raises_in window rows ++ (if b then row ∷ [] else [])) (eq-eqb row.window window same)
 
 raises_elsewhere : (window : ℕ) (rows : List RaiseRow) (row : RaiseRow) → row.window ≢ window → raises_in window (rows ++ row ∷ []) ≡ raises_in window rows
 raises_elsewhere window rows row other =
-    raises_append window rows row ∙ (ap (λ l. raises_in window rows ++ l) (left_out (row.window == window) row (ne_eqb row.window window other)) ∙ nil_after (raises_in window rows))
+    raises_append window rows row ∙ (ap (λ b. raises_in window rows ++ (if b then row ∷ [] else [])) (ne_eqb row.window window other) ∙ append-nil (raises_in window rows))
 
 answers_here : (window : ℕ) (rows : List AnswerRow) (row : AnswerRow) → row.window ≡ window → in_window window (rows ++ row ∷ []) ≡ in_window window rows ++ row ∷ []
-answers_here window rows row same = answers_append window rows row ∙ ap (λ l. in_window window rows ++ l) (chosen (row.window == window) row (eq-eqb row.window window same))
+answers_here window rows row same = window_append window rows (row ∷ []) ∙ ap (λ b. in_window window rows ++ (if b then row ∷ [] else [])) (eq-eqb row.window window same)
 
 answers_elsewhere : (window : ℕ) (rows : List AnswerRow) (row : AnswerRow) → row.window ≢ window → in_window window (rows ++ row ∷ []) ≡ in_window window rows
 answers_elsewhere window rows row other =
-    answers_append window rows row ∙ (ap (λ l. in_window window rows ++ l) (left_out (row.window == window) row (ne_eqb row.window window other)) ∙ nil_after (in_window window rows))
-
-map_more : {X Y : Type 0} (f : X → Y) (xs : List X) (x : X) → map f (xs ++ x ∷ []) ≡ map f xs ++ f x ∷ []
-map_more f [] x = refl
-map_more f (y ∷ xs) x = ap (λ l. f y ∷ l) (map_more f xs x)
+    window_append window rows (row ∷ []) ∙ (ap (λ b. in_window window rows ++ (if b then row ∷ [] else [])) (ne_eqb row.window window other) ∙ append-nil (in_window window rows))
 
 -- ---- windows that are over
 
@@ -194,7 +163,7 @@ goes_answer facts old row opened taken here = record {
     first = here.rows.first;
     second =
         subst (λ l. AllTaken facts l here.rows.raised (with_row old row))
-        (sym (map_more Answer (in_window old.now old.answers) row) ∙ ap (λ l. map Answer l) (sym (answers_here old.now old.answers row opened)))
+        (sym (map-append Answer (in_window old.now old.answers) (row ∷ [])) ∙ ap (λ l. map Answer l) (sym (answers_here old.now old.answers row opened)))
         (taken_more facts (map Answer (in_window old.now old.answers)) (Answer row) here.rows.raised old here.rows.second taken);
   };
   later_raises = here.later_raises;
@@ -217,7 +186,7 @@ goes_raise facts old row opened taken here =
         raised = with_raise here.rows.raised row;
         first =
             subst (λ l. AllTaken facts l here.begun (with_raise here.rows.raised row))
-            (sym (map_more Raise (raises_in old.now old.raises) row) ∙ ap (λ l. map Raise l) (sym (raises_here old.now old.raises row opened)))
+            (sym (map-append Raise (raises_in old.now old.raises) (row ∷ [])) ∙ ap (λ l. map Raise l) (sym (raises_here old.now old.raises row opened)))
             (taken_more facts (map Raise (raises_in old.now old.raises)) (Raise row) here.begun here.rows.raised here.rows.first
             (raise_too facts row here.rows.raised old leave.0 leave.1 taken));
         second = answers_beside facts row (in_window old.now old.answers) here.rows.raised old here.rows.second;
@@ -296,10 +265,7 @@ goes_on facts old new act reply accepted moves (Answered row asks is fresh same)
 goes_on facts old new act reply accepted moves (Raised row code asks found known is fresh same) here =
     let newly_row : newly old.now (decided facts old (asked facts (Raise row))) ≡ Some (Raise row) = subst (λ a. newly old.now (decided facts old (asked facts a)) ≡ Some a) is accepted in
     subst (λ s. GoesByWindows facts s) (sym same)
-    (goes_raise facts old row (is_open old.now facts.rounds row.window fresh.opened).0 (both (lt-ltb row.prog.0 (length facts.matrix.programmes) found.below) (ap (λ o. is_some o) newly_row)) here)
-  where
-    both : {a b : Bool} → a ≡ true → b ≡ true → (a && b) ≡ true
-    both first second = cc
+    (goes_raise facts old row (is_open old.now facts.rounds row.window fresh.opened).0 (and_from _ _ (lt-ltb row.prog.0 (length facts.matrix.programmes) found.below) (ap (λ o. is_some o) newly_row)) here)
 goes_on facts old new act reply accepted moves (Publishes window round asks is cuts less next same) here =
     let cut : CutPasses facts old new = cut_passes facts old new act reply is accepted moves in
     let count = here.order (omega (arith, less)) in

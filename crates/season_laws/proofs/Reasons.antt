@@ -1,8 +1,8 @@
 -- The reasons that the office gives are just.
-use Rattle.std.proofs.Common.{◌≡◌, ◌≢◌, ◌≤◌, ◌<◌, inl, inr, ◌==◌, ◌&&◌, ℕ, zero, suc, Bool, true, false, List, [], ◌∷◌, Option, Some, None, length, arith, refl, sym, ap, ◌∙◌, ◌+◌, subst, nat_lt, nat_le, if◌then◌else◌}
-use Rattle.std.specs.Prelude.{slice_get, option_map, ◌||◌}
+use Rattle.std.proofs.Common.{◌≡◌, ◌≢◌, ◌≤◌, ◌<◌, inl, inr, ◌==◌, ℕ, zero, suc, Bool, true, false, List, [], ◌∷◌, Option, Some, None, length, arith, refl, sym, ap, ◌∙◌, ◌+◌, subst, nat_lt, nat_le, if◌then◌else◌}
+use Rattle.std.specs.Prelude.{slice_get, option_map}
 use Rattle.std.specs.Option.{option_and_then, unwrap_or}
-use Rattle.std.proofs.lemmas.Bool.{cases_Bool, cond-false, cond-true, eq-eqb, eqb-true, ltb-false}
+use Rattle.std.proofs.lemmas.Bool.{and_from, and_parts, cases_Bool, cond-false, cond-true, eq-eqb, eqb-true, false≢true, ltb-false, or_cases, or_left, or_right}
 use Rattle.std.proofs.lemmas.Option.{slice_get_within}
 use Rattle.office_base.proofs.People.{at_person-get}
 use Rattle.office_base.proofs.StepNumbers.{kind_at, kinds}
@@ -58,7 +58,7 @@ use Rattle.office_moves.specs.declared.decide.Decision.{Decision}
 use Rattle.office_moves.specs.declared.decide.Decision.TheVariants.{CutAgain, Publish, Tell}
 use Rattle.office_moves.specs.declared.decide.Question.{Question}
 use Rattle.office_moves.specs.declared.decide.Question.TheVariants.{Why as TheReason, List as TheList, Cutoffs as TheCutoffs, Register as TheRegister}
-use Rattle.office_moves.specs.declared.moves.Reply.TheVariants.{CutoffsAre, Final, Published, RegisterIs, WhyIs}
+use Rattle.office_moves.specs.declared.moves.Reply.TheVariants.{Final, Published, RegisterIs, WhyIs}
 use Rattle.office_moves.specs.Why.{is_sought_by, reason_in, why_answer, why_beside, why_refused}
 use Rattle.office_moves.proofs.Narrows.{left_order, left_there, there_left}
 use Rattle.history_laws.specs.Orderly.{IsOrderly}
@@ -96,32 +96,20 @@ beside_too table other (Some one) prog same e =
 
 left_too : (table other : SeatTable) (seek : Seek) (progs : List ProgId) (place : ℕ) (prog : ProgId) → other.programmes ≡ table.programmes → is_left table seek progs place prog ≡ true
     → is_left other seek progs place prog ≡ true
-left_too table other (Within k) progs place prog same e = both (nat_le place k) _ _ e (beside_too table other (slice_get progs k) prog same)
-  where
-    both : (a b c : Bool) → (a && b) ≡ true → (b ≡ true → c ≡ true) → (a && c) ≡ true
-    both true b c h f = f h
-    both false b c h f = h
+left_too table other (Within k) progs place prog same e =
+    let two = and_parts (nat_le place k) _ e in
+    and_from _ _ two.0 (beside_too table other (slice_get progs k) prog same two.1)
 left_too table other _ progs place prog same e = e
 
 -- whatever is listed has a place
 listed_placed : (p : ℕ) (progs : List ProgId) → is_listed p progs ≡ true → place_of progs p < length progs
 listed_placed p [] e = absurd (cc)
-listed_placed p (q ∷ progs) e = elim (cases_Bool (q.0 == p)) [
-  | inl here ↦ first (q.0 == p) (place_of progs p) (length progs) here
-  | inr apart ↦ later (q.0 == p) (place_of progs p) (length progs) apart (listed_placed p progs (rest (q.0 == p) (is_listed p progs) apart e))
-]
+listed_placed p (q ∷ progs) e = by (q.0 == p) (listed_placed p progs) e
   where
-    first : (b : Bool) (n l : ℕ) → b ≡ true → (if b then 0 else n + 1) < suc l
-    first true n l h = omega arith
-    first false n l h = absurd (cc)
-
-    later : (b : Bool) (n l : ℕ) → b ≡ false → n < l → (if b then 0 else n + 1) < suc l
-    later true n l h less = absurd (cc)
-    later false n l h less = omega (arith, less)
-
-    rest : (b c : Bool) → b ≡ false → (if b then true else c) ≡ true → c ≡ true
-    rest true c h e = absurd (cc)
-    rest false c h e = e
+    by : (b : Bool) → (is_listed p progs ≡ true → place_of progs p < length progs) → (if b then true else is_listed p progs) ≡ true
+        → (if b then 0 else place_of progs p + 1) < suc (length progs)
+    by true rest e = omega arith
+    by false rest e = let less = rest e in omega (arith, less)
 
 left_by_both : (table other : SeatTable) (seek : Seek) (progs : List ProgId) (p : ℕ) → other.programmes ≡ table.programmes → is_listed p (seek_leaves table seek progs) ≡ true
     → place_of (seek_leaves other seek progs) p < length (seek_leaves other seek progs)
@@ -136,48 +124,27 @@ taken_in : (lists : List StepList) (person : Person) (step : StepKind) → admit
     → (j : ℕ) × (shown : StepList) × (slice_get lists j ≡ Some shown) × (shown.kind ≡ step) × (is_taken shown.admitted person ≡ true)
 taken_in [] person step e = absurd (cc)
 taken_in (list ∷ lists) person step e = elim (cases_Bool (is_taken list.admitted person)) [
-  | inl here ↦ (0, list, refl, first (is_taken list.admitted person) list.kind (admitted_in lists person) here e, here)
+  | inl here ↦ (0, list, refl, (let told : Some list.kind ≡ Some step = sym (cond-true _ _ _ here) ∙ e in cc), here)
   | inr apart ↦
-      let rest = taken_in lists person step (later (is_taken list.admitted person) list.kind (admitted_in lists person) apart e) in
+      let rest = taken_in lists person step (sym (cond-false _ _ _ apart) ∙ e) in
       (suc rest.0, rest.1, rest.2, rest.3, rest.4)
 ]
-  where
-    first : (b : Bool) (kind : StepKind) (o : Option StepKind) → b ≡ true → (if b then Some kind else o) ≡ Some step → kind ≡ step
-    first true kind o h e = cc
-    first false kind o h e = absurd (cc)
-
-    later : (b : Bool) (kind : StepKind) (o : Option StepKind) → b ≡ false → (if b then Some kind else o) ≡ Some step → o ≡ Some step
-    later true kind o h e = absurd (cc)
-    later false kind o h e = e
 
 -- somebody of the id is among them
 taken_means : (people : List Person) (person : Person) → is_taken people person ≡ true → (other : Person) × IsAmong other people × (other.id.0 ≡ person.id.0)
 taken_means [] person e = absurd (cc)
-taken_means (other ∷ people) person e = elim (cases_Bool (other.id.0 == person.id.0)) [
+taken_means (other ∷ people) person e = elim (or_cases (other.id.0 == person.id.0) (is_taken people person) e) [
   | inl here ↦ (other, inl refl, eqb-true other.id.0 person.id.0 here)
-  | inr apart ↦
-      let rest = taken_means people person (later (other.id.0 == person.id.0) (is_taken people person) apart e) in
-      (rest.0, inr rest.1, rest.2)
+  | inr later ↦ let rest = taken_means people person later in (rest.0, inr rest.1, rest.2)
 ]
-  where
-    later : (b c : Bool) → b ≡ false → (b || c) ≡ true → c ≡ true
-    later true c h e = absurd (cc)
-    later false c h e = e
 
 -- a person among them is one of the taken
 there_taken : (people : List Person) (person : Person) → IsAmong person people → is_taken people person ≡ true
 there_taken [] person there = absurd there
 there_taken (other ∷ people) person there = elim there [
-  | inl here ↦ first (other.id.0 == person.id.0) (is_taken people person) (eq-eqb other.id.0 person.id.0 (ap (λ (z : Person). z.id.0) (sym here)))
-  | inr later ↦ second (other.id.0 == person.id.0) (is_taken people person) (there_taken people person later)
+  | inl here ↦ or_left _ _ (eq-eqb other.id.0 person.id.0 (ap (λ (z : Person). z.id.0) (sym here)))
+  | inr later ↦ or_right _ _ (there_taken people person later)
 ]
-  where
-    first : (b c : Bool) → b ≡ true → (b || c) ≡ true
-    first b c e = cc
-
-    second : (b c : Bool) → c ≡ true → (b || c) ≡ true
-    second true c e = refl
-    second false c e = e
 
 -- a person on a list is on the first list that has the person
 somewhere : (lists : List StepList) (person : Person) (shown : StepList) → IsAmong shown lists → IsAmong person shown.admitted → (step : StepKind) × (admitted_in lists person ≡ Some step)
@@ -185,7 +152,7 @@ somewhere [] person shown listed there = absurd listed
 somewhere (list ∷ lists) person shown listed there = elim (cases_Bool (is_taken list.admitted person)) [
   | inl here ↦ (list.kind, cond-true (is_taken list.admitted person) (Some list.kind) (admitted_in lists person) here)
   | inr apart ↦ elim listed [
-    | inl first ↦ absurd (let yes = there_taken list.admitted person (subst (λ (z : StepList). IsAmong person z.admitted) first there) in let no : true ≡ false = sym yes ∙ apart in cc)
+    | inl first ↦ absurd (false≢true (sym apart ∙ there_taken list.admitted person (subst (λ (z : StepList). IsAmong person z.admitted) first there)))
     | inr later ↦
         let rest = somewhere lists person shown later there in
         (rest.0, cond-false (is_taken list.admitted person) (Some list.kind) (admitted_in lists person) apart ∙ rest.1)
@@ -337,11 +304,8 @@ module _ (facts : SeasonFacts) (state : State) (before : ℕ) (round : Round) (l
         chosen = just.shown prog.0 listed.0 listed.1;
         by_lists = ap (λ o. reason_from o (refusal (seats_in table prog.0).list listed.0 person)) (sym (told_of prog.0 listed.0 person seat.step below listed.1 applied admits under));
         against = tt;
-        admitted = λ step e. subst (λ k. IsShownUnder listed.0 k person) (one_step seat.step step e) under;
+        admitted = λ step e. subst (λ k. IsShownUnder listed.0 k person) (let same : seat.step ≡ step = cc in same) under;
       }
-    where
-      one_step : (a b : StepKind) → Admitted a ≡ Admitted b → a ≡ b
-      one_step a b e = cc
 
   -- ---- a candidate who has none
 
@@ -421,11 +385,9 @@ module _ (facts : SeasonFacts) (state : State) (before : ℕ) (round : Round) (l
         let means = sought_means facts cand prog (at_person cand.0 facts.people round.seeks) sought in
         let told = reason_means facts prog (slice_get round.programmes prog.0) (find_person cand.0 facts.people) reason (sym (cond-true _ _ NotSought sought) ∙ e) in
         subst (λ r. IsJustReason facts table round cand prog r) (sym told.4) (seeking cand prog means.0 told.0 told.1 means.1 means.2 told.2 told.3 not_before)
-    | inr not_sought ↦ absurd (not_because reason (sym (cond-false _ (reason_in facts prog (slice_get round.programmes prog.0) (find_person cand.0 facts.people)) NotSought not_sought) ∙ e))
+    | inr not_sought ↦
+        absurd (let told : NotSought ≡ Because reason = sym (cond-false _ (reason_in facts prog (slice_get round.programmes prog.0) (find_person cand.0 facts.people)) NotSought not_sought) ∙ e in cc)
   ]
-    where
-      not_because : (reason : Reason) → NotSought ≡ Because reason → ⊥
-      not_because reason e = cc
 
   beside : (cand : CandId) (prog : ProgId) (reason : Reason) (o : Option Seat) → seat_of facts (Some round) cand.0 ≡ o → why_beside facts round cand prog o ≡ Because reason
       → IsJustReason facts table round cand prog reason
@@ -433,11 +395,11 @@ module _ (facts : SeasonFacts) (state : State) (before : ℕ) (round : Round) (l
   beside cand prog reason (Some seat) has e = elim (cases_Bool (seat.prog.0 == prog.0)) [
     | inl same ↦
         let told : Because (Admitted seat.step) ≡ Because reason = sym (cond-true _ _ _ same) ∙ e in
-        subst (λ r. IsJustReason facts table round cand prog r) (reason_is (Admitted seat.step) reason told) (seated cand prog seat (held (at_person cand.0 facts.people round.seats) seat has) same)
+        subst (λ r. IsJustReason facts table round cand prog r) (let is : Admitted seat.step ≡ reason = cc in is) (seated cand prog seat (held (at_person cand.0 facts.people round.seats) seat has) same)
     | inr other ↦
         let rest = sym (cond-false _ _ _ other) ∙ e in
         elim (cases_Bool (nat_lt (place_of (list_of facts.lists cand.0) seat.prog.0) (place_of (list_of facts.lists cand.0) prog.0))) [
-          | inl better ↦ absurd (not_better seat.prog reason (sym (cond-true _ _ _ better) ∙ rest))
+          | inl better ↦ absurd (let told : Better seat.prog ≡ Because reason = sym (cond-true _ _ _ better) ∙ rest in cc)
           | inr later ↦
               refused_why cand prog reason
               (λ mine is. let one : seat ≡ mine = (let both : Some seat ≡ Some mine = sym has ∙ is in cc) in
@@ -446,12 +408,6 @@ module _ (facts : SeasonFacts) (state : State) (before : ℕ) (round : Round) (l
         ]
   ]
     where
-      reason_is : (a b : Reason) → Because a ≡ Because b → a ≡ b
-      reason_is a b e = cc
-
-      not_better : (prog : ProgId) (reason : Reason) → Better prog ≡ Because reason → ⊥
-      not_better prog reason e = cc
-
       held : (o : Option (Option Seat)) (seat : Seat) → option_and_then (λ s. s) o ≡ Some seat → o ≡ Some (Some seat)
       held None seat e = absurd (cc)
       held (Some s) seat e = ap Some e

@@ -1,19 +1,17 @@
 -- What an office kept is replayed.
-use Rattle.std.proofs.Common.{◌≡◌, ◌≤◌, ◌<◌, ◌+◌, ◌-◌, ◌==◌, ◌⊎◌, inl, inr, ℕ, zero, suc, Bool, true, false, List, [], ◌∷◌, map, arith, refl, sym, ap, ◌∙◌, subst, nat_lt, if◌then◌else◌}
+use Rattle.std.proofs.Common.{◌≡◌, ◌≤◌, ◌<◌, ◌+◌, ◌-◌, ◌==◌, inl, inr, ℕ, zero, suc, Bool, true, false, List, [], ◌∷◌, map, arith, refl, sym, ap, ◌∙◌, subst, nat_lt, if◌then◌else◌}
 use Rattle.std.specs.Prelude.{Result, Ok, Err}
-use Rattle.std.proofs.lemmas.Bool.{cases_Bool, cond-false, cond-true, lt-ltb, ltb-true}
+use Rattle.std.proofs.lemmas.Bool.{cases_Bool, cond-false, lt-ltb, ltb-true}
 use Rattle.kept_rows.specs.declared.rows.AnswerRow.{AnswerRow}
 use Rattle.kept_rows.specs.declared.rows.Kept.{Kept}
 use Rattle.kept_rows.specs.declared.rows.RaiseRow.{RaiseRow}
 use Rattle.office_moves.specs.Facts.{SeasonFacts}
-use Rattle.office_moves.specs.History.{IsHistory}
-use Rattle.office_moves.specs.Stands.{AreRecordsOf, first_allot, published_seat, raises_in}
+use Rattle.office_moves.specs.Stands.{AreRecordsOf, raises_in}
 use Rattle.office_moves.specs.State.{State, in_window, with_raise, with_row}
 use Rattle.office_moves.specs.declared.moves.Act.{Act}
 use Rattle.office_moves.specs.declared.moves.Act.TheVariants.{Answer, Raise}
-use Rattle.office_moves.specs.declared.moves.Entry.{Entry}
 use Rattle.season_laws.specs.Kept.{KeptIsReplayed}
-use Rattle.replays.specs.Replay.{AreAllotsOf, Closes, IsReplayed, Pass, RowsPass, WindowPasses, rows_replayed, takes, with_act}
+use Rattle.replays.specs.Replay.{Closes, IsReplayed, Pass, RowsPass, WindowPasses, rows_replayed, takes}
 use Rattle.season_laws.proofs.InWindows.{AllTaken, AreOver, GoesByWindows, IsOver, RowsTaken, all_by_windows}
 
 -- ---- the rows of one window, in their table

@@ -1,6 +1,5 @@
 -- The replies about a published round stay.
-use Rattle.std.proofs.Common.{◌≡◌, ◌<◌, ◌||◌, ◌==◌, ◌++◌, ◌∙◌, ℕ, zero, suc, Bool, true, false, List, [], ◌∷◌, Option, Some, None, length, nat_lt, option_map, arith, refl, sym, ap, subst}
-use Rattle.std.specs.Prelude.{slice_get}
+use Rattle.std.proofs.Common.{◌≡◌, ◌||◌, ◌==◌, ◌∙◌, ℕ, zero, suc, Bool, true, false, List, Option, Some, None, length, nat_lt, option_map, arith, sym, ap, subst}
 use Rattle.std.proofs.lemmas.Bool.{eqb-true, le-ltb, ne_eqb}
 use Rattle.std.proofs.lemmas.Option.{slice_get_within}
 use Rattle.office_base.specs.declared.asks.Ask.TheVariants.{List as AskList, Cutoffs}
@@ -11,15 +10,13 @@ use Rattle.list_cutoffs.specs.Cutoffs.{AreCutoffsIn}
 use Rattle.list_cutoffs.specs.declared.cutoffs.StepCutoff.{StepCutoff}
 use Rattle.rounds.specs.declared.round.Round.{Round}
 use Rattle.office_moves.specs.Facts.{IsSound, SeasonFacts, find_programme}
-use Rattle.office_moves.specs.State.{State, opening, round_at}
+use Rattle.office_moves.specs.State.{State, round_at}
 use Rattle.office_moves.specs.Judge.{judge_list, refuse_if}
 use Rattle.office_moves.specs.Moves.{Does, Tells, programme_in}
-use Rattle.office_moves.specs.History.{Reaches}
 use Rattle.office_moves.specs.Laws.{CutoffsAreOne, OneListOfCutoffs}
 use Rattle.office_moves.specs.declared.decide.Decision.TheVariants.{Tell}
 use Rattle.office_moves.specs.declared.decide.Question.{Question}
 use Rattle.office_moves.specs.declared.decide.Question.TheVariants.{List as TheList, Cutoffs as TheCutoffs}
-use Rattle.office_moves.specs.declared.moves.Entry.{Entry}
 use Rattle.office_moves.specs.declared.moves.Reply.{Reply}
 use Rattle.office_moves.specs.declared.moves.Reply.TheVariants.{CutoffsAre, ListIs, Refused}
 use Rattle.office_moves.specs.declared.refusal.Refusal.TheVariants.{NoSuchRound, UnknownProgramme}
