@@ -1,5 +1,5 @@
 -- A seeker whom every programme still admits that admitted the seeker before has no worse seat.
-use Rattle.std.proofs.Common.{◌≡◌, ◌≢◌, ◌<◌, ◌≤◌, ◌⊎◌, inl, inr, ℕ, suc, Bool, true, false, List, [], ◌∷◌, Option, Some, None, length, arith, refl, sym, ap, ◌∙◌, subst, if◌then◌else◌}
+use Rattle.std.proofs.Common.{◌≡◌, ◌≢◌, ◌<◌, ◌≤◌, ◌⊎◌, inl, inr, ℕ, suc, Bool, true, false, List, [], ◌∷◌, Option, Some, None, length, arith, refl, sym, ap, ◌∙◌, subst}
 use Rattle.std.specs.Prelude.{slice_get, slice_set}
 use Rattle.std.proofs.Math.ListN.{length-set}
 use Rattle.std.proofs.lemmas.Bool.{cases_eq, eq-eqb, false_from_ne_true}
@@ -107,12 +107,11 @@ those_apart f [] (v ∷ ts) xs full same = absurd (omega (arith, full))
 those_apart f (u ∷ ss) [] xs full same = absurd (omega (arith, full))
 those_apart f (u ∷ ss) (v ∷ ts) [] full same = refl
 those_apart f (u ∷ ss) (v ∷ ts) (x ∷ xs) full same =
-    first u v (same 0 u v x refl refl refl) ∙ ap (λ rest. if f v x then v.person ∷ rest else rest) (those_apart f ss ts xs (omega (arith, full)) (λ j. same (suc j)))
-  where
-    first : (u v : Seeker) → (u ≡ v) ⊎ ((f u x ≡ false) × (f v x ≡ false)) → (if f u x then u.person ∷ those f ss xs else those f ss xs) ≡ (if f v x then v.person ∷ those f ss xs else those f ss xs)
-    first u v (inl one) = ap (λ (z : Seeker). if f z x then z.person ∷ those f ss xs else those f ss xs) one
-    first u v (inr none) =
-        ap (λ b. if b then u.person ∷ those f ss xs else those f ss xs) none.0 ∙ sym (ap (λ b. if b then v.person ∷ those f ss xs else those f ss xs) none.1)
+    let rest = those_apart f ss ts xs (omega (arith, full)) (λ j. same (suc j)) in
+    elim (same 0 u v x refl refl refl) [
+      | inl one ↦ cc
+      | inr none ↦ rw (none.0, none.1) rest
+    ]
 
 -- a programme that admits the first person from some people admits the second from the same people with the second in place of the first
 abbrev pub Improves : Rule → (ℕ → List Person → Type 0) → ℕ → Person → Person → Type 0
@@ -180,31 +179,21 @@ module _ (rule : Rule) (MayApply : ℕ → List Person → Type 0) (well : Choos
         ])
 
     -- those who seek something else apply in both
-    sub_of : (q : ℕ) (all some : List Seeker) (w : Seeker) → length some ≡ length all → slice_get some i ≡ Some (with_list w []) → ((j : ℕ) (u : Seeker) → slice_get all i ≡ Some u → u.person ≡ w.person)
-        → ((j : ℕ) (u : Seeker) → j ≢ i → slice_get all j ≡ Some u → slice_get some j ≡ Some u) → IsSublist (applicants q some none_seats) (applicants q all none_seats)
-    sub_of q all some w count_same at_i who others =
-        those_sublist (test q) (test q) some all none_seats none_seats (record {
-          seekers = sym count_same;
+    sub_of : (q : ℕ) (all : List Seeker) (w : Seeker) → slice_get all i ≡ Some w
+        → IsSublist (applicants q (slice_set all i (with_list w [])) none_seats) (applicants q (slice_set all i (with_list w only)) none_seats)
+    sub_of q all w at_w =
+        those_sublist (test q) (test q) (slice_set all i (with_list w [])) (slice_set all i (with_list w only)) none_seats none_seats (record {
+          seekers = length-set all i (with_list w only) ∙ sym (length-set all i (with_list w []));
           values = refl;
-          persons = λ j u v at at'. elim (cases_eq j i) [
-            | inl mine ↦ let one : u ≡ with_list w [] = cc in let same = who j v (cc) in cc
-            | inr apart ↦ let e = others j v apart at' in cc
+          persons = λ j u v at at'. elim (at_set all i j w (with_list w []) u at_w at) [
+            | inl mine ↦ let second = get_set_same all i (with_list w only) w at_w in cc
+            | inr other ↦ let same = get_set_other all i j (with_list w only) other.0 in cc
           ];
-          passes = λ j u v y z at at' has' has'' h. elim (cases_eq j i) [
-            | inl mine ↦ let one : u ≡ with_list w [] = cc in let no = no_list q y in absurd (cc)
-            | inr apart ↦ let e = others j v apart at' in cc
+          passes = λ j u v y z at at' has' has'' h. elim (at_set all i j w (with_list w []) u at_w at) [
+            | inl mine ↦ let no = no_list q y in let one : u ≡ with_list w [] = mine.1 in absurd (cc)
+            | inr other ↦ let same = get_set_other all i j (with_list w only) other.0 in cc
           ];
         })
-
-    sub : (q : ℕ) → IsSublist (applicants q gone none_seats) (applicants q alone none_seats)
-    sub q =
-        sub_of q alone gone s (length-set seekers i (with_list s []) ∙ sym (length-set seekers i (with_list s only))) (get_set_same seekers i (with_list s []) s there)
-        (λ j u at. let e = here in cc) (λ j u. at_another seekers seekers i j (with_list s only) (with_list s []) u refl)
-
-    sub' : (q : ℕ) → IsSublist (applicants q gone' none_seats) (applicants q alone' none_seats)
-    sub' q =
-        sub_of q alone' gone' t (length-set changed i (with_list t []) ∙ sym (length-set changed i (with_list t only))) (get_set_same changed i (with_list t []) t there')
-        (λ j u at. let e = here' in cc) (λ j u. at_another changed changed i j (with_list t only) (with_list t []) u refl)
 
     full_alone : length none_seats ≡ length alone
     full_alone = fair'.allocation.full ∙ (length-set changed i (with_list t only) ∙ (full ∙ sym (length-set seekers i (with_list s only))))
@@ -280,8 +269,8 @@ module _ (rule : Rule) (MayApply : ℕ → List Person → Type 0) (well : Choos
               (λ has'. absurd (cc)),
             )
         | inr off ↦
-            let first = well.without q (applicants q gone none_seats) (applicants q alone none_seats) (may q below) (sub q) (outside q below) u.person kind in
-            let second = well.without q (applicants q gone' none_seats) (applicants q alone' none_seats) (may' q below) (sub' q)
+            let first = well.without q (applicants q gone none_seats) (applicants q alone none_seats) (may q below) (sub_of q seekers s there) (outside q below) u.person kind in
+            let second = well.without q (applicants q gone' none_seats) (applicants q alone' none_seats) (may' q below) (sub_of q changed t there')
             (outside_refused rule count q alone' none_seats (applicants q gone' none_seats) below fair' (holders_gone q)) u.person kind in
             let agreed = fair'.agrees q j u kind below (other_market j u off at) in (
               (λ admits. agreed.0 (second.0 (subst (λ l. rule q l u.person kind) (same_gone q) (first.1 admits)))),
