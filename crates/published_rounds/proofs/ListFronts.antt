@@ -98,16 +98,17 @@ fronted_whole k (s ∷ seekers) whole =
     ap (λ l. with_list s l ∷ fronted (λ i. k (suc i)) seekers) (take_all (k 0) s.list (whole 0 s refl))
     ∙ ap (λ rest. s ∷ rest) (fronted_whole (λ i. k (suc i)) seekers (λ i. whole (suc i)))
 
+-- the list of the seeker at a place, or none
+abbrev pub listed : Option Seeker → List ProgId
+listed None = []
+listed (Some s) = s.list
+
 -- how long the list at a place is
 abbrev pub size_at : List Seeker → ℕ → ℕ
-size_at [] i = 0
-size_at (s ∷ seekers) zero = length s.list
-size_at (s ∷ seekers) (suc i) = size_at seekers i
+size_at seekers i = length (listed (slice_get seekers i))
 
 pub size_there : (seekers : List Seeker) (i : ℕ) (s : Seeker) → slice_get seekers i ≡ Some s → size_at seekers i ≡ length s.list
-size_there [] i s there = absurd (cc)
-size_there (x ∷ seekers) zero s there = let same : x ≡ s = cc in ap (λ (z : Seeker). length z.list) same
-size_there (x ∷ seekers) (suc i) s there = size_there seekers i s there
+size_there seekers i s there = ap (λ o. length (listed o)) there
 
 -- the value at a place, or none
 abbrev pub seat_of_place : List (Option Seat) → ℕ → Option Seat
@@ -118,19 +119,14 @@ of_place seats i seat at = ap (λ o. unwrap_or o None) at
 
 -- how far down their list the seat at a place is
 abbrev pub rank_at : List Seeker → List (Option Seat) → ℕ → ℕ
-rank_at [] seats i = 0
-rank_at (s ∷ seekers) seats zero = rank_of s.list (seat_of_place seats 0)
-rank_at (s ∷ seekers) [] (suc i) = 0
-rank_at (s ∷ seekers) (x ∷ seats) (suc i) = rank_at seekers seats i
+rank_at seekers seats i = rank_of (listed (slice_get seekers i)) (seat_of_place seats i)
 
 pub rank_there : (seekers : List Seeker) (seats : List (Option Seat)) (i : ℕ) (s : Seeker) (seat : Option Seat) → slice_get seekers i ≡ Some s → slice_get seats i ≡ Some seat
     → rank_at seekers seats i ≡ rank_of s.list seat
-rank_there [] seats i s seat there has = absurd (cc)
-rank_there (x ∷ seekers) seats zero s seat there has =
-    let same : x ≡ s = cc in
-    ap (λ (z : Seeker). rank_of z.list (seat_of_place seats 0)) same ∙ ap (λ o. rank_of s.list o) (of_place seats 0 seat has)
-rank_there (x ∷ seekers) [] (suc i) s seat there has = absurd (cc)
-rank_there (x ∷ seekers) (y ∷ seats) (suc i) s seat there has = rank_there seekers seats i s seat there has
+rank_there seekers seats i s seat there has = ap (λ o. rank_of (listed o) (seat_of_place seats i)) there ∙ ap (λ o. rank_of s.list o) (of_place seats i seat has)
+
+pub rank_short : (list : List ProgId) (seat : Option Seat) → rank_of list seat ≤ length list
+rank_short list seat = omega (arith, rank_front (length list) list seat, ap (λ l. rank_of l seat) (take_all (length list) list (omega arith)))
 
 -- In fair seats of the next round, by a rule that admits whom the first does, a seeker who had a seat and still wants its programme has a seat.
 still_seated : (rule more : Rule) (MayApply : ℕ → List Person → Type 0) (count p i : ℕ) (seekers next : List Seeker) (seats others : List (Option Seat)) (s t : Seeker) (kind : StepKind)

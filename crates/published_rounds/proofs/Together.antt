@@ -1,5 +1,5 @@
 -- No group gains together (Hatfield and Kojima 2009). Those who would gain cut their lists before their seats, and take them back one by one.
-use Rattle.std.proofs.Common.{◌≡◌, ◌<◌, ◌≤◌, ◌+◌, ◌⊎◌, ◌==◌, inl, inr, ℕ, zero, suc, Bool, true, false, List, [], ◌∷◌, Option, Some, None, length, nat_lt, not, take, arith, refl, sym, ap, ◌∙◌, subst, if◌then◌else◌, below_more}
+use Rattle.std.proofs.Common.{◌≡◌, ◌<◌, ◌≤◌, ◌+◌, ◌⊎◌, ◌==◌, inl, inr, ℕ, zero, suc, Bool, true, false, List, Option, Some, None, length, nat_lt, not, take, arith, refl, sym, ap, ◌∙◌, subst, if◌then◌else◌, below_more}
 use Rattle.std.specs.Prelude.{◌&&◌, ◌||◌, slice_get}
 use Rattle.std.specs.Option.{is_none, is_some}
 use Rattle.std.proofs.lemmas.Bool.{false_from_ne_true, and_cases, and_from, and_left, and_parts, and_right, cases_Bool, cases_eq, cases_lt, cond-false, cond-true, eq-eqb, eqb-true, lt-ltb, ltb-false, ltb-true, ne_eqb, not-false, not-true, not_from_false, not_from_true, or_cases, or_from, or_parts, or_right}
@@ -12,13 +12,13 @@ use Rattle.allocations.specs.Fair.{IsBest, IsFair, IsMarket}
 use Rattle.allocations.specs.Market.{Seeker, applies, place_of, rank_of}
 use Rattle.allocations.specs.Rule.{AdmitsNoFewer, ChoosesWell, Rule}
 use Rattle.allocations.proofs.Best.{best_there}
-use Rattle.allocations.proofs.Places.{applies_true, rank_within}
+use Rattle.allocations.proofs.Places.{applies_true}
 use Rattle.allocations.proofs.Seated.{fair_alike}
 use Rattle.allocations.proofs.Those.{value_at}
 use Rattle.allocations.proofs.Truthful.{with_list}
 use Rattle.published_rounds.specs.Groups.{AllGain, NoGroupGains, TellTogether}
 use Rattle.published_rounds.proofs.Counted.{AreBeside, has_seat}
-use Rattle.published_rounds.proofs.ListFronts.{AppliesBy, base, IsWithin, applies_by, by_applies, fronted, fronted_at, fronted_whole, front_market, front_within, length_fronted, moved, of_place, rank_at, rank_there, seat_of_place, wider, size_at, size_there, still_listed}
+use Rattle.published_rounds.proofs.ListFronts.{AppliesBy, base, IsWithin, applies_by, by_applies, fronted, fronted_at, fronted_whole, front_market, front_within, length_fronted, moved, of_place, rank_at, rank_there, seat_of_place, listed, rank_short, wider, size_at, size_there, still_listed}
 
 -- ---- places
 
@@ -59,15 +59,6 @@ passing_less f g (suc n) r each e h =
     one_fewer true false h = absurd (let e = h refl in cc)
     one_fewer false c h = omega arith
 
-ranks_short : (seekers : List Seeker) (seats : List (Option Seat))
-    → ((i : ℕ) (s : Seeker) (seat : Option Seat) → slice_get seekers i ≡ Some s → slice_get seats i ≡ Some seat → rank_of s.list seat ≤ length s.list)
-    → (i : ℕ) → rank_at seekers seats i ≤ size_at seekers i
-ranks_short [] seats each i = omega arith
-ranks_short (s ∷ seekers) [] each zero = omega arith
-ranks_short (s ∷ seekers) [] each (suc i) = omega arith
-ranks_short (s ∷ seekers) (x ∷ seats) each zero = each 0 s x refl refl
-ranks_short (s ∷ seekers) (x ∷ seats) each (suc i) = ranks_short seekers seats (λ j. each (suc j)) i
-
 module _ (rule : Rule) (MayApply : ℕ → List Person → Type 0) (well : ChoosesWell rule MayApply) (no_fewer : AdmitsNoFewer rule MayApply) (count : ℕ) (group : ℕ → Bool)
     (seekers told : List Seeker) (seats others : List (Option Seat)) (market : IsMarket MayApply count seekers) (market' : IsMarket MayApply count told)
     (together : TellTogether group seekers told) (best : IsBest rule count seekers seats) (fair' : IsFair rule count told others) (gain : AllGain group seekers seats others) where
@@ -96,7 +87,7 @@ module _ (rule : Rule) (MayApply : ℕ → List Person → Type 0) (well : Choos
   seat_there i s there = value_at seekers seats i s best.fair.allocation.full there
 
   short : (i : ℕ) → rank i ≤ whole i
-  short = ranks_short seekers seats (λ i s seat there has. rank_within s.list seat (best.fair.allocation.own i s seat there has))
+  short i = rank_short (listed (slice_get seekers i)) (seat_of_place seats i)
 
   all_whole : fronted whole seekers ≡ seekers
   all_whole = fronted_whole whole seekers (λ i s there. let e = size_there seekers i s there in omega (arith, e))
