@@ -107,10 +107,6 @@ module _ (well : ProgrammesChooseWell) (exists : ProgrammeChoiceExists) (one : O
       let read = place_read s.list p less in
       subst (λ n. n < count) read.2 (over.market.below i (place_of s.list p) s read.0 there read.1)
 
-  -- so is the programme of a seat
-  below_seat : (i p : ℕ) (s : Seeker) (step : StepKind) → slice_get seekers i ≡ Some s → slice_get seats i ≡ Some (Some (seat_at p step)) → p < count
-  below_seat i p s step there has = below_of i p s there (over.fair.allocation.own i s (Some (seat_at p step)) there has)
-
   -- who wants a programme more than their seat applied to it, and it does not admit them
   no_later : (p i : ℕ) (s : Seeker) (seat : Option Seat) → slice_get seekers i ≡ Some s → slice_get seats i ≡ Some seat → place_of s.list p < length s.list
       → ((below : p < count) → IsAmong s.person (all p) → IsAdmitted (chosen p below).admissions s.person) → rank_of s.list seat ≤ place_of s.list p
@@ -143,11 +139,8 @@ module _ (well : ProgrammesChooseWell) (exists : ProgrammeChoiceExists) (one : O
     held_part : IsSublist held (all p)
     held_part = part (λ s seat. is_seat_under p step seat) (λ s seat. applies p s.list seat) seekers seats seats refl
         (λ i s x y there at again h.
-        let same : x ≡ y = cc in
-        subst (λ z. applies p s.list z ≡ true) same (holder_applies p s.list x (over.fair.allocation.own i s x there at) (under_of p step x h)))
-
-    held_together : AreApplicants (list_in table p) held
-    held_together = (well version table over.are_seats).part p held (all p) (together p below) held_part
+        let mine = holder_applies p s.list x (over.fair.allocation.own i s x there at) (under_of p step x h) in
+        cc)
 
     -- as many seats are given as there are such holders
     held_count : length held ≡ seats_under p step seats
@@ -174,7 +167,7 @@ module _ (well : ProgrammesChooseWell) (exists : ProgrammeChoiceExists) (one : O
     given_count =
         let c = chosen p below in
         let admitted = admitted_by c.admissions step in
-        let by_merit = in_merit_ranks (list_in table p) held held_together in
+        let by_merit = in_merit_ranks (list_in table p) held ((well version table over.are_seats).part p held (all p) (together p below) held_part) in
         let order = (in_merit_ranks (list_in table p) (all p) (together p below)).0 in
         let admitted_order = ranked_sublist (list_in table p) admitted (in_merit (list_in table p) (all p)) order (in_order version table p (all p) c.admissions step c.choice) in
         let few = length-sublist (in_merit (list_in table p) held) admitted (ranked_part (list_in table p) (in_merit (list_in table p) held) admitted by_merit.0 admitted_order
@@ -243,7 +236,7 @@ module _ (well : ProgrammesChooseWell) (exists : ProgrammeChoiceExists) (one : O
   open_to_holder : AdmittedMayStand → (p i : ℕ) (s : Seeker) (step : StepKind) → slice_get seekers i ≡ Some s → slice_get seats i ≡ Some (Some (seat_at p step))
       → IsOpenTo table seekers seats p s.person
   open_to_holder stands p i s step there has =
-      let below = below_seat i p s step there has in
+      let below = below_of i p s there (over.fair.allocation.own i s (Some (seat_at p step)) there has) in
       let c = chosen p below in
       record {
         place = i;

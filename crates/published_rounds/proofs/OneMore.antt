@@ -45,9 +45,6 @@ only_trait t s holds = elim (cases_eq s t) [
   | inr apart ↦ absurd (let one = bit_one (alone t) s holds in let none = bit_at-pow_other t s apart in omega (arith, one, none))
 ]
 
-own_trait : (t : ℕ) → IsTrue (has_trait (alone t) t)
-own_trait t = has_one (alone t) t (bit_at-pow_same t)
-
 -- ---- placements with one protected seat more
 
 module _ (one two : Protections) (t : ℕ) (more : protected two t ≡ suc (protected one t)) (same : (s : ℕ) → s ≢ t → protected two s ≡ protected one s) where
@@ -98,7 +95,7 @@ module _ (one two : Protections) (t : ℕ) (more : protected two t ≡ suc (prot
   contract d people n only apart h = record {
     reached = (
       record { cand = d.id; slot = t } ∷ h.reached.0,
-      placed_first d people h.reached.0 (subst (λ z. IsTrue (has_trait z t)) (sym only) (own_trait t)) apart h.reached.1,
+      placed_first d people h.reached.0 (subst (λ z. IsTrue (has_trait z t)) (sym only) (has_one (alone t) t (bit_at-pow_same t))) apart h.reached.1,
       omega (arith, h.reached.2),
     );
     most = most;
