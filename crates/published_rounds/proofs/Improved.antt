@@ -223,7 +223,8 @@ module _ (rule : Rule) (MayApply : ℕ → List Person → Type 0) (well : Choos
         (λ inside.
             let found = of_those (test q) alone' none_seats other inside in
             let off : found.place ≢ i = λ e. apart (let mine : found.s ≡ with_list t only = cc (here', found.there) in cc (found.person_is)) in
-            subst (λ z. IsAmong z (applicants q alone none_seats)) (sym found.person_is) (those_has (test q) alone none_seats found.place found.s found.value (at_another changed seekers i found.place (with_list t only) (with_list s only) found.s (sym (rest found.place off)) off found.there) found.at found.passes)),
+            let at = at_another changed seekers i found.place (with_list t only) (with_list s only) found.s (sym (rest found.place off)) off found.there in
+            subst (λ z. IsAmong z (applicants q alone none_seats)) (sym found.person_is) (those_has (test q) alone none_seats found.place found.s found.value at found.at found.passes)),
       );
     }
 
@@ -243,7 +244,8 @@ module _ (rule : Rule) (MayApply : ℕ → List Person → Type 0) (well : Choos
               let one : found.s ≡ with_list s only = cc (here, found.there) in
               refused q kind below (subst (λ z. rule q (applicants q alone none_seats) z kind) (found.person_is ∙ ap (λ (z : Seeker). z.person) one) admits)
           | inr off ↦
-              apart (subst (λ z. IsAmong z (applicants q gone none_seats)) (sym found.person_is) (those_has (test q) gone none_seats found.place found.s found.value (at_another seekers seekers i found.place (with_list s only) (with_list s []) found.s refl off found.there) found.at found.passes))
+              let at = at_another seekers seekers i found.place (with_list s only) (with_list s []) found.s refl off found.there in
+              apart (subst (λ z. IsAmong z (applicants q gone none_seats)) (sym found.person_is) (those_has (test q) gone none_seats found.place found.s found.value at found.at found.passes))
         ]
 
     holders_gone : (q : ℕ) (j : ℕ) (u : Seeker) (seat : Option Seat) → slice_get alone' j ≡ Some u → slice_get none_seats j ≡ Some seat → is_of q seat ≡ true → IsAmong u.person (applicants q gone' none_seats)

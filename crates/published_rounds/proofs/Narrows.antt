@@ -167,17 +167,14 @@ request_after facts papers old state request order after stays = go (newly state
     by_decision : (d : Decision) → decided facts state request ≡ d → IsAfter facts papers old (taken facts papers state d) → IsAfter facts papers old (taken facts papers state (decided facts state request))
     by_decision d e h = subst (λ (z : Decision). IsAfter facts papers old (taken facts papers state z)) (sym e) h
 
-    no_cut : (d : Decision) → decided facts state request ≡ d → (taken facts papers state d).now ≡ state.now
-    no_cut d e = ap (λ (z : Decision). (taken facts papers state z).now) (sym e) ∙ stays
-
     accepted : (act : Act) → Accepts facts state request.by request.ask act → IsAfter facts papers old (taken facts papers state (decided facts state request))
     accepted act (NewAnswer row asks is n decides) =
         by_decision (Note row) decides (answer_after facts papers old state row after (is_open state.now facts.rounds row.window n.opened).0
         (is_noted (answer_facts facts (view_of state row.cand.0) row) row n.next))
     accepted act (NewRaise row code asks found known is n decides) =
         by_decision (Lift row) decides (raise_after facts papers old state row after (was_lift facts state row (subst (λ z. row.prog.0 < length z) (sym order.programmes) found.below) n.next))
-    accepted act (LastCut window asks is n last decides) = absurd (let e = no_cut Finish decides in omega (arith, e))
-    accepted act (NewCut window asks is n less decides) = absurd (let e = no_cut Publish decides in omega (arith, e))
+    accepted act (LastCut window asks is n last decides) = absurd (let e : (taken facts papers state Finish).now ≡ state.now = cc in omega (arith, e))
+    accepted act (NewCut window asks is n less decides) = absurd (let e : (taken facts papers state Publish).now ≡ state.now = cc in omega (arith, e))
 
     go : (o : Option Act) → newly state.now (decided facts state request) ≡ o → IsAfter facts papers old (taken facts papers state (decided facts state request))
     go None e = subst (IsAfter facts papers old) (sym (nothing_new facts papers state (decided facts state request) e)) after
