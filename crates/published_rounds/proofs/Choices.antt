@@ -13,7 +13,6 @@ use Rattle.office_base.specs.StepChoice.{IsNoWorse, IsStepChoice, MayAdmit}
 use Rattle.office_base.specs.declared.category_steps.CategoryStep.{CategoryStep}
 use Rattle.office_base.specs.declared.step.Pair.{Pair}
 use Rattle.office_base.specs.declared.person.CandId.{CandId}
-use Rattle.office_base.specs.declared.person.Category.{Category}
 use Rattle.office_base.specs.declared.person.ListId.{ListId}
 use Rattle.office_base.specs.declared.person.Person.{Person}
 use Rattle.office_base.specs.declared.person.TraitSet.{TraitSet}
@@ -102,8 +101,8 @@ module _ (g : CandId → CandId) (f : Person → Person) (keeps : KeepsOrder g f
 
   no_worse_map : (list : ListId) (xs ys : List Person) → IsNoWorse list xs ys → IsNoWorse list (map f xs) (map f ys)
   no_worse_map list xs [] h = tt
-  no_worse_map list [] (y ∷ ys) h = absurd h
   no_worse_map list (x ∷ xs) (y ∷ ys) h = (elim h.0 [ inl same ↦ inl (ap f same) | inr better ↦ inr (better_map list x y better) ], no_worse_map list xs ys h.1)
+  no_worse_map list xs ys h = absurd h
 
   -- ---- placements
 
@@ -221,27 +220,23 @@ module _ (g : CandId → CandId) (f : Person → Person) (keeps : KeepsOrder g f
   without_map : (people taken : List Person) → without (map f people) (map f taken) ≡ map f (without people taken)
   without_map people taken = filter_map f (λ person. not (is_taken (map f taken) person)) (λ person. not (is_taken taken person)) people (λ x. ap not (taken_map taken x))
 
-  common_map : (list : ListId) (people : List Person) → filter (is_common list) (map f people) ≡ map f (filter (is_common list) people)
-  common_map list people = filter_map f (is_common list) (is_common list) people (λ x. keeps.common list x)
-
-  category_map : (category : Category) (people : List Person) → filter (is_of category) (map f people) ≡ map f (filter (is_of category) people)
-  category_map category people = filter_map f (is_of category) (is_of category) people (λ x. ap (λ c. is_same category c) (keeps.category x))
-
   -- the admissions of the same persons
   abbrev pub admissions_map : Admissions → Admissions
   admissions_map a = λ kind. map f (a kind)
 
   members_map : (row : Option CategoryStep) (applicants taken : List Person) → members_by row (without (map f applicants) (map f taken)) ≡ map f (members_by row (without applicants taken))
   members_map None applicants taken = refl
-  members_map (Some row) applicants taken = ap (λ l. filter (is_of row.category) l) (without_map applicants taken) ∙ category_map row.category (without applicants taken)
+  members_map (Some row) applicants taken =
+      ap (λ l. filter (is_of row.category) l) (without_map applicants taken)
+      ∙ filter_map f (is_of row.category) (is_of row.category) (without applicants taken) (λ x. ap (λ c. is_same row.category c) (keeps.category x))
 
   left_map : (kinds : List StepKind) (applicants : List Person) (a : Admissions) → left_by kinds (map f applicants) (admissions_map a) ≡ map f (left_by kinds applicants a)
   left_map [] applicants a = refl
   left_map (kind ∷ kinds) applicants a = ap (λ l. left_by kinds l (admissions_map a)) (without_map applicants (a kind)) ∙ left_map kinds (without applicants (a kind)) a
 
   people_map : (list : ListId) (applicants : List Person) (a : Admissions) (kind : StepKind) → people_of list (map f applicants) (admissions_map a) kind ≡ map f (people_of list applicants a kind)
-  people_map list applicants a Open = common_map list applicants
-  people_map list applicants a Dereserved = ap (λ l. filter (is_common list) l) (left_map own_steps applicants a) ∙ common_map list (left_over applicants a)
+  people_map list applicants a Open = filter_map f (is_common list) (is_common list) applicants (keeps.common list)
+  people_map list applicants a Dereserved = ap (λ l. filter (is_common list) l) (left_map own_steps applicants a) ∙ filter_map f (is_common list) (is_common list) (left_over applicants a) (keeps.common list)
   people_map list applicants a kind = members_map (row_of kind) applicants (a Open)
 
   choice_map : (version : ℕ) (seats : ProgrammeSeats) (applicants : List Person) (a : Admissions) → IsProgrammeChoice version seats applicants a

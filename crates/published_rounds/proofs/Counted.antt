@@ -92,9 +92,7 @@ tally_all zero xs ys each = let e = tally_zero xs in omega (arith, e)
 tally_all (suc n) xs ys each =
     let rest = tally_all n xs ys (λ p less. each p (omega (arith, less))) in
     let here = each n (omega arith) in
-    let a = tally_next n xs in
-    let b = tally_next n ys in
-    omega (arith, rest, here, a, b)
+    omega (arith, rest, here, tally_next n xs, tally_next n ys)
 
 -- ---- seats of both
 
@@ -237,9 +235,7 @@ module _ (rule : Rule) (MayApply : ℕ → List Person → Type 0) (well : Choos
   -- whoever moves has a seat in both
   mine : (i : ℕ) (y : Option Seat) → moves i ≡ true → slice_get both i ≡ Some y → has_below count y ≡ true
   mine i y moving at =
-      let less = slice_get_within both i y at in
-      let size = full_both in
-      let s = there_is seekers i (omega (arith, less, size)) in
+      let s = there_is seekers i (omega (arith, slice_get_within both i y at, full_both)) in
       let seat = value_at seekers seats i s.0 full s.1 in
       let other = value_at seekers others i s.0 full' s.1 in
       let is = moved_at moves others seats i other.0 y moving other.1 at in
@@ -261,5 +257,4 @@ module _ (rule : Rule) (MayApply : ℕ → List Person → Type 0) (well : Choos
       let w = value_at seekers both r s full_both there in
       let yes = mine r w.0 moving w.1 in
       let less = tally_less (has_below count) seats both r None w.0 (full_both ∙ sym full) below_both none w.1 refl yes in
-      let all = tally_all count both seats no_more in
-      omega (arith, less, all)
+      omega (arith, less, tally_all count both seats no_more)

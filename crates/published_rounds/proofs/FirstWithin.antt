@@ -62,9 +62,8 @@ module _ (lists : ℕ → ListId) (cutoffs : ℕ → List StepCutoff) (person : 
           first_along progs (Some own)
               (λ one less later. outside one (let most = most_place prog progs one in omega (arith, most, less)) (let most = most_place prog progs one in omega (arith, most, later, next)))
               (λ its has. let same : own ≡ its = cc in
-              let less = (inside own refl).0 in
               subst (λ (o : Seat). (place_of progs o.prog.0 < length progs) × IsWithinFirst (lists o.prog.0) person o.step (cutoffs o.prog.0)) same
-              (omega (arith, less, next), (inside own refl).1)),
+              (omega (arith, (inside own refl).0, next), (inside own refl).1)),
         )
   ]
     where

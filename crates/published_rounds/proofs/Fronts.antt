@@ -73,9 +73,7 @@ own_whole : (n : ℕ) (list front : List ProgId) (seat : Option Seat) → IsFron
 own_whole n list front None is own = tt
 own_whole n list front (Some x) is own =
     let l = lengths n list front x.prog.0 is in
-    let at = l.place own in
-    let shorter = l.shorter in
-    omega (arith, at, shorter, own)
+    omega (arith, l.place own, l.shorter, own)
 
 -- who applies by the front applies by the list
 applies_whole : (n p : ℕ) (list front : List ProgId) (seat : Option Seat) → IsFrontOf n list front → applies p front seat ≡ true → applies p list seat ≡ true
@@ -91,9 +89,8 @@ applies_whole n p list front seat is h =
     later None within =
         let l = lengths n list front p is in
         let at = l.place (applies_means p front seat h).wants in
-        let shorter = l.shorter in
         let wants = (applies_means p front seat h).wants in
-        omega (arith, at, shorter, wants)
+        omega (arith, at, l.shorter, wants)
     later (Some y) within =
         let l = lengths n list front p is in
         let at = l.place (applies_means p front seat h).wants in
@@ -123,9 +120,7 @@ applies_none n p list front is long h =
 -- a seat that the front holds does not stand behind the place
 front_within : (n : ℕ) (list : List ProgId) (p : ℕ) → place_of (take (suc n) list) p < length (take (suc n) list) → place_of list p ≤ n
 front_within n list p less =
-    let size = length-take (suc n) list in
-    let at = front_place (suc n) list p in
-    omega (arith, size, at, less)
+    omega (arith, length-take (suc n) list, front_place (suc n) list p, less)
 
 none_of : (list : List ProgId) (seat : Option Seat) → IsOwn list seat → length list ≤ rank_of list seat → seat ≡ None
 none_of list None own long = refl

@@ -18,7 +18,8 @@ use Rattle.history_laws.specs.Course.{IsCourse}
 use Rattle.history_laws.proofs.Entering.{lists_full}
 use Rattle.history_laws.proofs.Fits.{enters, full_seeks}
 use Rattle.published_rounds.specs.Published.{market_then, matrix_then, wanted_then}
-use Rattle.published_rounds.proofs.Places.{AreOrderly, course_of, in_round, made_then, may_enter}
+use Rattle.published_rounds.proofs.Places.{AreOrderly, course_of, in_round, made_then}
+use Rattle.published_rounds.proofs.FairThen.{fair_over}
 use Rattle.published_rounds.specs.Groups.{AllGain, TellTogether}
 use Rattle.published_rounds.specs.GroupLaws.{AllWouldGain, AreOtherwiseTogether, NoGroupGainsInARound, NoGroupWouldGain}
 use Rattle.published_rounds.proofs.Together.{no_group_gains}
@@ -71,9 +72,8 @@ no_group_would_gain orderly none facts entries state window round group i person
     let table = matrix_then facts state window in
     let ok = course.seats (suc window) in
     let mine = in_round facts state window i round person sound course published.there at in
-    let here = market table facts.people (lists_in_order facts) (all_sought_then facts state window) ok (may_enter facts state window sound course) in
     let here' = market table facts.people told sought ok enter in
-    none facts.version table ok (length table.programmes) group (market_then facts state window) (seekers_of table facts.people told sought) round.seats others i mine.s here here'
+    none facts.version table ok (length table.programmes) group (market_then facts state window) (seekers_of table facts.people told sought) round.seats others i mine.s (fair_over facts state window round sound course published.there).market here'
     (tell_together table facts.people (lists_in_order facts) told (all_sought_then facts state window) sought group (lists_full facts sound) (full_seeks facts state window sound) otherwise)
     (made_then facts state window round course published.there).best fair within mine.there
     (all_gain facts state window round group others sound course published.there gain)

@@ -21,15 +21,14 @@ use Rattle.programme_cutoffs.specs.Cutoffs.{MeetsCutoff}
 use Rattle.programme_cutoffs.specs.Laws.{LinesTellCutoffs, WhoMeetsStillMeets}
 use Rattle.rounds.specs.Rule.{MayApplyIn, ProgrammesChooseWell, ProgrammesGrow, rule_of}
 use Rattle.rounds.specs.declared.round.Round.{Round}
-use Rattle.rounds.proofs.Entrants.{market}
-use Rattle.office_moves.specs.Facts.{IsSound, SeasonFacts, lists_in_order}
-use Rattle.office_moves.specs.Promise.{all_sought_then}
+use Rattle.office_moves.specs.Facts.{IsSound, SeasonFacts}
 use Rattle.office_moves.specs.State.{State}
 use Rattle.history_laws.specs.Course.{IsCourse}
 use Rattle.history_laws.proofs.Falls.{fit_all, next_market}
 use Rattle.published_rounds.specs.Published.{market_then, matrix_then}
-use Rattle.published_rounds.proofs.Places.{AreOrderly, course_of, made_then, may_enter}
+use Rattle.published_rounds.proofs.Places.{AreOrderly, course_of, made_then}
 use Rattle.published_rounds.specs.CutoffLaws.{LaterCutoffsAreWider}
+use Rattle.published_rounds.proofs.FairThen.{fair_over}
 use Rattle.published_rounds.proofs.OutsideCutoffs.{shown_by, told}
 
 module _ (orderly : AreOrderly) (well : ProgrammesChooseWell) (grow : ProgrammesGrow) (still_meets : WhoMeetsStillMeets) (one : OneProgrammeChoice) (facts : SeasonFacts) (state : State) (sound : IsSound facts)
@@ -53,8 +52,7 @@ module _ (orderly : AreOrderly) (well : ProgrammesChooseWell) (grow : Programmes
   may window round is below =
       let fair = (made_then facts state window round course is).best.fair in
       applicants_may (rule_of facts.version (table window)) (MayApplyIn (table window)) (length (table window).programmes) prog (market_then facts state window) round.seats
-      (market (table window) facts.people (lists_in_order facts) (all_sought_then facts state window) (course.seats (suc window)) (may_enter facts state window sound course))
-      (well facts.version (table window) (course.seats (suc window))) below fair.allocation.full
+      (fair_over facts state window round sound course is).market (well facts.version (table window) (course.seats (suc window))) below fair.allocation.full
 
   same_programmes : (window : ℕ) → length (table (suc window)).programmes ≡ length (table window).programmes
   same_programmes window = ap length (course.raised (suc window)).programmes
@@ -111,8 +109,7 @@ module _ (orderly : AreOrderly) (well : ProgrammesChooseWell) (grow : Programmes
   would_later window zero below would less = subst Would (omega arith) would
   would_later window (suc n) below would less =
       let still = would_still window below would (omega (arith, less)) in
-      let size = same_programmes window in
-      subst Would (omega arith) (would_later (suc window) n (omega (arith, below, size)) still (omega (arith, less)))
+      subst Would (omega arith) (would_later (suc window) n (omega (arith, below, same_programmes window)) still (omega (arith, less)))
 
 pub later_cutoffs_are_wider : AreOrderly → ProgrammesChooseWell → ProgrammesGrow → WhoMeetsStillMeets → LinesTellCutoffs → OneProgrammeChoice → (facts : SeasonFacts) → LaterCutoffsAreWider facts
 later_cutoffs_are_wider orderly well grow still_meets tell one facts entries state window next round later cutoffs others prog programme person kind published published' most are are' there small within =
@@ -120,9 +117,10 @@ later_cutoffs_are_wider orderly well grow still_meets tell one facts entries sta
     let course = course_of orderly facts entries state window round published in
     let shown = shown_by well facts state window round sound course published.there prog programme there in
     let made' = made_then facts state next later course published'.there in
-    let size = all_programmes course window next in
+    let size = ap length (course.programmes (suc window)) in
+    let size' = ap length (course.programmes (suc next)) in
     let below = shown.below in
-    let programme' = there_is later.programmes prog (let count = made'.count in omega (arith, below, count, size)) in
+    let programme' = there_is later.programmes prog (let count = made'.count in omega (arith, below, count, size, size')) in
     let shown' = shown_by well facts state next later sound course published'.there prog programme'.0 programme'.1 in
     let meets = (told well facts state window round sound course published.there tell prog programme shown (cutoffs prog) person kind small (are prog programme there)).1 within in
     let would : Would orderly well grow still_meets one facts state sound course prog person small kind window =
@@ -139,6 +137,3 @@ later_cutoffs_are_wider orderly well grow still_meets tell one facts entries sta
     one facts.version (seats_in (matrix_then facts state next) prog) people' then.admissions shown'.admissions ((course.seats (suc next)).sound prog shown'.below) shown'.may its shown'.choice in
     (told well facts state next later sound course published'.there tell prog programme'.0 shown' (others prog) person kind small (are' prog programme'.0 programme'.1)).0
     (subst (λ (admissions : Admissions). MeetsCutoff facts.version (seats_in (matrix_then facts state next) prog) admissions person kind) equal then.meets)
-  where
-    all_programmes : IsCourse facts state → (m n : ℕ) → length (matrix_then facts state n).programmes ≡ length (matrix_then facts state m).programmes
-    all_programmes course m n = (let a = ap length (course.programmes (suc m)) in let b = ap length (course.programmes (suc n)) in omega (arith, a, b))

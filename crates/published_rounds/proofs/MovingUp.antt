@@ -84,9 +84,6 @@ renumbered_give_the_same order version table people others lists seeks seats ok 
 
 -- ---- one person moves up
 
-no_number : (k : ℕ) (p : Person) (x : ℕ) → number_at k (record p { places = [] }) ≡ Some x → ⊥
-no_number k p x e = let f : None ≡ Some x = e in absurd (cc)
-
 module _ (i : ℕ) (before after : Person) (people others : List Person) (off : OneMovesUp i before after people others) where
   -- the people with no place for the one
   abbrev pub unplaced : List Person
@@ -98,8 +95,13 @@ module _ (i : ℕ) (before after : Person) (people others : List Person) (off : 
   abbrev pub v : ℕ → ℕ → ℕ
   v = with_reach others unplaced
 
-  unplaced_here : (a : Person) → slice_get unplaced i ≡ Some a → a ≡ record before { places = [] }
-  unplaced_here a at = let mine = get_set_same people i (record before { places = [] }) before off.there in cc
+  unplaced_here : (h k n : ℕ) (a : Person) → h ≡ i → slice_get unplaced h ≡ Some a → number_at k a ≡ Some n → ⊥
+  unplaced_here h k n a mine at e =
+      let here = get_set_same people i (record before { places = [] }) before off.there in
+      let there = subst (λ z. slice_get unplaced z ≡ Some a) mine at in
+      let who : a ≡ record before { places = [] } = cc in
+      let none : None ≡ Some n = subst (λ z. number_at k z ≡ Some n) who e in
+      absurd (cc)
 
   unplaced_there : (h : ℕ) → h ≢ i → slice_get unplaced h ≡ slice_get people h
   unplaced_there h apart = get_set_other people i h (record before { places = [] }) apart
@@ -116,9 +118,7 @@ module _ (i : ℕ) (before after : Person) (people others : List Person) (off : 
         | inr other ↦ not_greater k p q a b x y m n e e' f f' (off.order (list_at k) j h p a q b apart other at here at' here').0
       ]) in
       let two = sum_at k others unplaced j q p y x at' (unplaced_there j apart ∙ at) e' e (λ h a b m n here here' f f'. elim (cases_eq h i) [
-        | inl mine ↦ absurd (
-            let who = unplaced_here b (subst (λ z. slice_get unplaced z ≡ Some b) mine here') in
-            no_number k before n (subst (λ z. number_at k z ≡ Some n) who f'))
+        | inl mine ↦ absurd (unplaced_here h k n b mine here' f')
         | inr other ↦ not_greater k q p a b y x m n e' e f f' (off.order (list_at k) j h p b q a apart other at (sym (unplaced_there h other) ∙ here') at' here).1
       ]) in
       omega (arith, one, two)
@@ -128,9 +128,7 @@ module _ (i : ℕ) (before after : Person) (people others : List Person) (off : 
   no_greater k a b e e' =
       let up = reach_there k people others a i before after a b off.there off.there_after e e' (omega arith) in
       let low = reach_least k others unplaced b a (λ h q p y x here here' f f' le. elim (cases_eq h i) [
-        | inl mine ↦ absurd (
-            let who = unplaced_here p (subst (λ z. slice_get unplaced z ≡ Some p) mine here') in
-            no_number k before x (subst (λ z. number_at k z ≡ Some x) who f'))
+        | inl mine ↦ absurd (unplaced_here h k x p mine here' f')
         | inr other ↦ elim (cases_lt a x) [
           | inl less ↦ absurd (
               let still = better_from k after q b y e' f (off.still_ahead (list_at k) h p q other (sym (unplaced_there h other) ∙ here') here (better_to k before p a x e f' less)) in
@@ -146,10 +144,9 @@ module _ (i : ℕ) (before after : Person) (people others : List Person) (off : 
   place_of_one list None (Some b) e e' = absurd (let has = (off.placed list).0 (subst (λ o. IsSome o) (sym e') refl) in let none : IsSome {T = ℕ} None = subst (λ o. IsSome o) e has in cc)
   place_of_one list (Some a) None e e' = absurd (let has = (off.placed list).1 (subst (λ o. IsSome o) (sym e) refl) in let none : IsSome {T = ℕ} None = subst (λ o. IsSome o) e' has in cc)
   place_of_one list (Some a) (Some b) e e' =
-      let le = no_greater (list.0 - 1) a b e e' in
       elim (cases_eq (v (list.0 - 1) b) (u (list.0 - 1) a)) [
         | inl same ↦ inl (ap Some same)
-        | inr apart ↦ inr (omega (arith, le, apart))
+        | inr apart ↦ inr (omega (arith, no_greater (list.0 - 1) a b e e', apart))
       ]
 
   no_worse_off : (list : ListId) → IsNoWorseOff list (with_numbers u before) (with_numbers v after)
@@ -181,10 +178,9 @@ module _ (i : ℕ) (before after : Person) (people others : List Person) (off : 
         ∙ (ap Some (sym (one_person u v p.0 q.0 (off.rest j p.0 q.0 apart p.1 q.1) (λ k x y e e'. same_number j k p.0 q.0 x y apart p.1 q.1 e e')))
         ∙ sym (map_at (with_numbers u) people j p.0 p.1))
     | inr past ↦
-        let full = off.full in
         let size = length-map people (with_numbers u) in
         let size' = length-map others (with_numbers v) in
-        slice_get_past (map (with_numbers v) others) j (omega (arith, past, full, size')) ∙ sym (slice_get_past (map (with_numbers u) people) j (omega (arith, past, size)))
+        slice_get_past (map (with_numbers v) others) j (omega (arith, past, off.full, size')) ∙ sym (slice_get_past (map (with_numbers u) people) j (omega (arith, past, size)))
   ]
 
   -- with these numbers only the one differs

@@ -62,8 +62,7 @@ one_person u v a b same agree =
 -- what an element of a list was made of
 pub map_back : {X Y : Type 0} (g : X → Y) (xs : List X) (i : ℕ) (y : Y) → slice_get (map g xs) i ≡ Some y → (x : X) × (slice_get xs i ≡ Some x) × (y ≡ g x)
 map_back g xs i y at =
-    let less = slice_get_within (map g xs) i y at in
-    let x = there_is xs i (omega (arith, less, length-map xs g)) in
+    let x = there_is xs i (omega (arith, slice_get_within (map g xs) i y at, length-map xs g)) in
     let there = map_at g xs i x.0 x.1 in
     (x.0, x.1, (let same : Some y ≡ Some (g x.0) = sym at ∙ there in cc))
 

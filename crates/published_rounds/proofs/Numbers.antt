@@ -1,7 +1,7 @@
 -- Numbers that rise with the old ones keep the order.
-use Rattle.std.proofs.Common.{◌≡◌, ◌<◌, ◌≤◌, ◌-◌, inl, inr, ℕ, zero, suc, false, List, [], ◌∷◌, nat_lt, arith, refl, sym, ap, ◌∙◌}
+use Rattle.std.proofs.Common.{◌≡◌, ◌<◌, ◌≤◌, ◌-◌, inl, inr, ℕ, zero, suc, List, [], ◌∷◌, nat_lt, arith, refl, sym, ap, ◌∙◌}
 use Rattle.std.specs.Prelude.{slice_index_or}
-use Rattle.std.proofs.lemmas.Bool.{cases_Bool, cases_eq, cases_lt, lt-ltb, ltb-true}
+use Rattle.std.proofs.lemmas.Bool.{cases_eq, cases_lt, le-ltb, lt-ltb}
 use Rattle.office_base.specs.Merit.{is_ahead}
 use Rattle.office_base.specs.Person.{is_common_place, number_of}
 use Rattle.office_base.specs.declared.person.Category.{Category}
@@ -24,11 +24,8 @@ module _ (number : ℕ → ℕ) (rises : (m n : ℕ) → m < n → number m < nu
   same_test : (m n : ℕ) → nat_lt (number m) (number n) ≡ nat_lt m n
   same_test m n = elim (cases_lt m n) [
     | inl less ↦ lt-ltb (number m) (number n) (rises m n less) ∙ sym (lt-ltb m n less)
-    | inr past ↦ fails (number m) (number n) (still_behind m n past) ∙ sym (fails m n past)
+    | inr past ↦ le-ltb (number m) (number n) (still_behind m n past) ∙ sym (le-ltb m n past)
   ]
-    where
-      fails : (a b : ℕ) → b ≤ a → nat_lt a b ≡ false
-      fails a b le = elim (cases_Bool (nat_lt a b)) [ inl e ↦ absurd (let less = ltb-true a b e in omega (arith, less, le)) | inr e ↦ e ]
 
   pub one_number : (m n : ℕ) → number m ≡ number n → m ≡ n
   one_number m n e = elim (cases_lt m n) [

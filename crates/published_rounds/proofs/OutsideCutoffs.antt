@@ -31,9 +31,7 @@ use Rattle.programme_cutoffs.specs.Laws.{CutoffsDecideAdmissions, CutoffsDecideS
 use Rattle.programme_cutoffs.specs.Reading.{IsWithinFirst, IsWithinLines, IsWithinStep}
 use Rattle.rounds.specs.Rule.{MayApplyIn, ProgrammesChooseWell, rule_of}
 use Rattle.rounds.specs.declared.round.Round.{Round}
-use Rattle.rounds.proofs.Entrants.{market}
-use Rattle.office_moves.specs.Facts.{IsSound, SeasonFacts, lists_in_order}
-use Rattle.office_moves.specs.Promise.{all_sought_then}
+use Rattle.office_moves.specs.Facts.{IsSound, SeasonFacts}
 use Rattle.office_moves.specs.State.{State, seat_of}
 use Rattle.history_laws.specs.Course.{IsCourse}
 use Rattle.published_rounds.specs.Published.{market_then, matrix_then, wanted_then}
@@ -41,6 +39,7 @@ use Rattle.published_rounds.proofs.Places.{AreOrderly, InRound, course_of, in_ro
 use Rattle.published_rounds.specs.CutoffLaws.{RefusalsAreOutside, SeatsAreTheFirst, WithinCutoffsIsSeated}
 use Rattle.published_rounds.specs.Cutoffs.{AreCutoffsThen, IsSeatOfFirst}
 use Rattle.published_rounds.proofs.RaisedCutoffs.{more_cutoffs, raised_by}
+use Rattle.published_rounds.proofs.FairThen.{fair_over}
 use Rattle.published_rounds.proofs.FirstWithin.{first_along, of_some_step}
 
 module _ (well : ProgrammesChooseWell) (facts : SeasonFacts) (state : State) (window : ℕ) (round : Round) (sound : IsSound facts) (course : IsCourse facts state)
@@ -65,12 +64,11 @@ module _ (well : ProgrammesChooseWell) (facts : SeasonFacts) (state : State) (wi
       let inside = slice_get_within round.programmes prog programme there in
       let count = made.count in
       let below : prog < length table.programmes = omega (arith, inside, count) in
-      let here = market table facts.people (lists_in_order facts) (all_sought_then facts state window) (course.seats (suc window)) (may_enter facts state window sound course) in
       let shown = made.shown prog programme there in
       record {
         admissions = shown.0;
         below = below;
-        may = applicants_may (rule_of facts.version table) (MayApplyIn table) (length table.programmes) prog seekers round.seats here (well facts.version table (course.seats (suc window)))
+        may = applicants_may (rule_of facts.version table) (MayApplyIn table) (length table.programmes) prog seekers round.seats (fair_over facts state window round sound course is).market (well facts.version table (course.seats (suc window)))
             below made.best.fair.allocation.full;
         choice = shown.1;
         shows = shown.2;
@@ -126,9 +124,8 @@ module _ (well : ProgrammesChooseWell) (facts : SeasonFacts) (state : State) (wi
       → (programme : Programme) × (slice_get round.programmes prog ≡ Some programme)
   sought_there i prog person b less =
       let made = made_then facts state window round course is in
-      let here = market table facts.people (lists_in_order facts) (all_sought_then facts state window) (course.seats (suc window)) (may_enter facts state window sound course) in
       let read = place_read b.s.list prog less in
-      let below : prog < length table.programmes = subst (λ n. n < length table.programmes) read.2 (here.below i (place_of b.s.list prog) b.s read.0 b.there read.1) in
+      let below : prog < length table.programmes = subst (λ n. n < length table.programmes) read.2 ((fair_over facts state window round sound course is).market.below i (place_of b.s.list prog) b.s read.0 b.there read.1) in
       there_is round.programmes prog (let count = made.count in omega (arith, below, count))
 
   pub outside : CutoffsDecideAdmissions → LinesTellCutoffs → (i prog : ℕ) (person : Person) (cutoffs : ℕ → List StepCutoff) → IsTraitSet person.traits → AreCutoffsThen facts round cutoffs

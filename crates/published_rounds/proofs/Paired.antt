@@ -41,8 +41,7 @@ below_above : (others : List Person) (i : ℕ) (b : Person) → slice_get others
 below_above [] i b at = absurd (cc)
 below_above (c ∷ others) zero b at =
     let same : c.id.0 ≡ b.id.0 = cc in
-    let some = least others in
-    omega (arith, same, some)
+    omega (arith, same, least others)
   where
     least : (more : List Person) → 0 < above more
     least [] = omega arith

@@ -1,7 +1,7 @@
 -- Numbers for the places of two registers of the same people: each place gets the sum of its two numbers, and what follows rises.
-use Rattle.std.proofs.Common.{◌≡◌, ◌+◌, ◌-◌, ◌<◌, ◌≤◌, inl, inr, ℕ, zero, suc, max, false, List, [], ◌∷◌, Option, Some, None, nat_lt, arith, refl, sym, ap, ◌∙◌, subst, if◌then◌else◌}
+use Rattle.std.proofs.Common.{◌≡◌, ◌+◌, ◌-◌, ◌<◌, ◌≤◌, inl, inr, ℕ, zero, suc, max, List, [], ◌∷◌, Option, Some, None, nat_lt, arith, refl, sym, ap, ◌∙◌, subst, if◌then◌else◌}
 use Rattle.std.specs.Prelude.{slice_get, slice_index_or}
-use Rattle.std.proofs.lemmas.Bool.{cases_Bool, cases_lt, lt-ltb, ltb-true}
+use Rattle.std.proofs.lemmas.Bool.{cases_lt, le-ltb, lt-ltb}
 use Rattle.office_base.specs.Person.{IsAhead, IsBetter, number_in, number_of}
 use Rattle.office_base.specs.declared.person.ListId.{ListId}
 use Rattle.office_base.specs.declared.person.Person.{Person}
@@ -35,14 +35,11 @@ step m None y = 0
 step m (Some x) None = 0
 step m (Some x) (Some y) = if nat_lt m x then 0 else y
 
-test_past : (m x : ℕ) → x ≤ m → nat_lt m x ≡ false
-test_past m x le = elim (cases_Bool (nat_lt m x)) [ inl e ↦ absurd (let less = ltb-true m x e in omega (arith, less, le)) | inr e ↦ e ]
-
 step_there : (m : ℕ) (a b : Option ℕ) (x y : ℕ) → a ≡ Some x → b ≡ Some y → x ≤ m → step m a b ≡ y
 step_there m (Some u) (Some v) x y e e' le =
     let same : u ≡ x = cc in
     let value : v ≡ y = cc in
-    ap (λ t. if t then 0 else v) (test_past m u (omega (arith, same, le))) ∙ value
+    ap (λ t. if t then 0 else v) (le-ltb m u (omega (arith, same, le))) ∙ value
 step_there m a b x y e e' le = absurd (cc)
 
 step_least : (m c : ℕ) (a b : Option ℕ) → ((x y : ℕ) → a ≡ Some x → b ≡ Some y → x ≤ m → y ≤ c) → step m a b ≤ c

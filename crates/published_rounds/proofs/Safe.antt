@@ -88,10 +88,7 @@ module _ (rule : Rule) (MayApply : ℕ → List Person → Type 0) (well : Choos
       narrowed = λ p j a b at at' less. elim (by_place j a b at at') [
         | inl t ↦
             let less' : place_of front p < length front = subst (λ (z : Seeker). place_of z.list p < length z.list) t.after less in
-            let e = place p in
-            let n = size in
-            let o = own in
-            subst (λ (z : Seeker). place_of z.list p < length z.list) (sym t.before) (omega (arith, less', e, n, o))
+            subst (λ (z : Seeker). place_of z.list p < length z.list) (sym t.before) (omega (arith, less', place p, size, own))
         | inr same ↦ subst (λ (z : Seeker). place_of z.list p < length z.list) (sym same) less
       ];
     })
@@ -133,17 +130,14 @@ module _ (rule : Rule) (MayApply : ℕ → List Person → Type 0) (well : Choos
         cc)
     told_gives (Some w) at =
         let mine : place_of front w.prog.0 < length front = (fair told told_market).allocation.own i (with_list s front) (Some w) told_there at in
-        let e = place w.prog.0 in
-        let n = size in
-        omega (arith, mine, e, n)
+        omega (arith, mine, place w.prog.0, size)
 
     -- and so it does by the whole list
     pub gives_it : (x : Option Seat) → slice_get (gives seekers) i ≡ Some x → rank_of s.list x ≤ place_of s.list y.prog.0
     gives_it x at =
         let z = value_at told (gives told) i (with_list s front) (fair told told_market).allocation.full told_there in
-        let few = told_gives z.0 z.1 in
         let none_gains = safe i seekers told s x z.0 market told_market tells there at z.1 in
-        omega (arith, few, none_gains)
+        omega (arith, told_gives z.0 z.1, none_gains)
 
   -- nobody is worse off under the rule than with the best seats
   no_worse : (i : ℕ) (s : Seeker) (x seat : Option Seat) → slice_get seekers i ≡ Some s → slice_get (gives seekers) i ≡ Some x → slice_get seats i ≡ Some seat

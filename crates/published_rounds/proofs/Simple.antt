@@ -70,10 +70,9 @@ holders_placed t (person ∷ people) pairs distinct each = elim (cases_Bool (has
         let pair = found.0 in
         let on : pair.slot ≡ t = (all_leaves (λ (p : Pair). p.cand ≡ person.id → p.slot ≡ t) pair pairs found.1 found.2 own.1).0 found.3 in
         let counts = placed_on_leaves t pair pairs found.1 found.2 in
-        let one = stands_same t pair on in
         let others = others_placed found.1 (still pair found.1 found.2 found.3 people distinct.0 each.1) in
         let mine : one_if (has_trait person.traits t) ≡ 1 = ap one_if holds in
-        omega (arith, counts, one, others, mine)
+        omega (arith, counts, stands_same t pair on, others, mine)
     by_pair others_placed own (inr none) holds = absurd (let at = any_all (λ (p : Pair). person.id ≡ p.cand) (λ (p : Pair). person.id ≢ p.cand) pairs own.0 none in at.2 at.1)
 
 -- ---- the best holders so far
@@ -117,9 +116,8 @@ module _ (protections : Protections) where
     few = λ t. elim (on_or_off s t) [
       | inl on ↦
           let was = are.few t in
-          let one = on.1 in
           let holds : one_if (has_trait person.traits t) ≡ 1 = ap one_if (subst (λ z. IsTrue (has_trait person.traits z)) on.0 best.1) in
-          omega (arith, was, one, holds)
+          omega (arith, was, on.1, holds)
       | inr off ↦ let was = are.few t in omega (arith, was, off)
     ];
     enough = λ t some. let was = are.enough t some in omega (arith, was);
@@ -167,9 +165,7 @@ module _ (protections : Protections) where
         let by = all-get (λ (p : Pair). AnyByRecursion (Fills p) people) pairs i pair placed.held at in
         let who = any_all (Fills pair) (λ p. IsAmong p people) people by (among_itself people) in
         let is : who.0 ≡ person = one_person people distinct who.0 person who.2 here (sym who.1.0 ∙ same) in
-        let some = counted_pair pairs i pair at in
-        let room = placed.within pair.slot in
-        (subst (λ (p : Person). IsTrue (has_trait p.traits pair.slot)) is who.1.1, omega (arith, some, room))
+        (subst (λ (p : Person). IsTrue (has_trait p.traits pair.slot)) is who.1.1, omega (arith, counted_pair pairs i pair at, placed.within pair.slot))
 
     only_on : (t : ℕ) (person : Person) → IsAmong person people → IsTrue (has_trait person.traits t) → 0 < protected protections t → OnlyOn t person.id pairs
     only_on t person here holds some =
@@ -198,15 +194,13 @@ module _ (protections : Protections) where
           let its = pair_holds all one (person ∷ chosen) can.0 among distinct can.1 at.0 found.0 person at.1 (inl refl) found.3 in
           let t = found.0.slot in
           let full : protected protections t ≤ holders_of t better = elim (cases_lt (holders_of t better) (protected protections t)) [ inl less ↦ absurd (not (t, its.0, less)) | inr past ↦ past ] in
-          let have = are.enough t its.1 in
           let mine : one_if (has_trait person.traits t) ≡ 1 = ap one_if its.0 in
-          let room = can.1.within t in
           let counted = holders_placed t (person ∷ chosen) can.0 distinct
           (all_from (λ (q : Person). IsTrue (has_trait q.traits t) → Stands q.id can.0 × OnlyOn t q.id can.0) (person ∷ chosen)
           (λ i q there holds.
           let here = at_among (person ∷ chosen) i q there in
           (all-get (λ (p : Person). Stands p.id can.0) (person ∷ chosen) i q stands there, only_on all one (person ∷ chosen) can.0 among distinct can.1 t q here holds its.1))) in
-          absurd (omega (arith, full, have, mine, room, counted))
+          absurd (omega (arith, full, are.enough t its.1, mine, can.1.within t, counted))
 
   -- ---- down the merit order
 

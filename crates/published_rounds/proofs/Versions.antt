@@ -26,24 +26,22 @@ use Rattle.seat_matrix.specs.Seats.{is_dereserved, seats_of}
 use Rattle.seat_matrix.specs.Unfilled.{left_unfilled}
 use Rattle.seat_matrix.specs.declared.seats.ProgrammeSeats.{ProgrammeSeats}
 use Rattle.rounds.specs.Rule.{MayApplyIn, ProgrammesChooseWell, rule_of}
-use Rattle.rounds.proofs.Entrants.{market}
-use Rattle.office_moves.specs.Facts.{SeasonFacts, lists_in_order}
-use Rattle.office_moves.specs.Promise.{all_sought_then}
+use Rattle.office_moves.specs.Facts.{SeasonFacts}
 use Rattle.office_moves.specs.State.{seat_of}
 use Rattle.office_moves.proofs.Sums.{rows_less}
 use Rattle.special_round.specs.Remaining.{ever_given, may_be_taken}
 use Rattle.published_rounds.specs.Published.{market_then, matrix_then, wanted_then}
-use Rattle.published_rounds.proofs.Places.{AreOrderly, course_of, in_round, made_then, may_enter, place_among}
+use Rattle.published_rounds.proofs.Places.{AreOrderly, course_of, in_round, place_among}
+use Rattle.published_rounds.proofs.FairThen.{fair_over}
 use Rattle.published_rounds.specs.RuleLaws.{VersionTwoHurtsNobody, VersionTwoWouldHurtNobody}
 
 -- ---- one programme
 
 -- one of the first few is one of the first more
 take_more : (n m : ℕ) (people : List Person) (x : Person) → n ≤ m → IsAmong x (take n people) → IsAmong x (take m people)
-take_more zero m people x within here = absurd here
 take_more (suc n) zero people x within here = absurd (omega (arith, within))
-take_more (suc n) (suc m) [] x within here = absurd here
 take_more (suc n) (suc m) (y ∷ people) x within here = elim here [ inl is ↦ inl is | inr later ↦ inr (take_more n m people x (omega (arith, within)) later) ]
+take_more n m people x within here = absurd here
 
 -- a category that gives its empty seats away in some version does so in version 2
 abbrev as_in_two : CategoryStep → Bool
@@ -117,15 +115,13 @@ version_two_would_hurt_nobody orderly hurts facts entries state window number ro
     let course = course_of orderly facts entries state window round published in
     let table = matrix_then facts state window in
     let seekers = market_then facts state window in
-    let ok = course.seats (suc window) in
-    let here = market table facts.people (lists_in_order facts) (all_sought_then facts state window) ok (may_enter facts state window published.sound course) in
-    let made = made_then facts state window round course published.there in
+    let over = fair_over facts state window round published.sound course published.there in
     let at = place_among facts.people person among in
     let mine = in_round facts state window at.0 round person published.sound course published.there at.1 in
     let x = value_at seekers other.seats at.0 mine.s again.best.fair.allocation.full mine.there in
     let his : seat_of facts (Some other) person.id.0 ≡ x.0 = ap (λ o. option_and_then (λ s. s) o) (at_person-get facts.people other.seats at.0 person published.sound.ranks.rising at.1 ∙ x.1) in
     let result : rank_of mine.s.list x.0 ≤ rank_of mine.s.list mine.seat =
-    hurts facts.version table seekers round.seats other.seats at.0 mine.s mine.seat x.0 ok here made.best.fair again.best mine.there mine.has x.1 in
+    hurts facts.version table seekers round.seats other.seats at.0 mine.s mine.seat x.0 over.are_seats over.market over.fair again.best mine.there mine.has x.1 in
     subst (λ o. rank_of (wanted_then facts state window person.id.0) o ≤ rank_of (wanted_then facts state window person.id.0) (seat_of facts (Some round) person.id.0)) (sym his)
     (subst (λ o. rank_of (wanted_then facts state window person.id.0) x.0 ≤ rank_of (wanted_then facts state window person.id.0) o) (sym mine.seat_is)
     (subst (λ l. rank_of l x.0 ≤ rank_of l mine.seat) mine.list_is result))
