@@ -202,9 +202,6 @@ module _ (g : CandId → CandId) (f : Person → Person) (keeps : KeepsOrder g f
 
   -- ---- a programme
 
-  taken_or : (b c d e : Bool) → b ≡ c → d ≡ e → (b || d) ≡ (c || e)
-  taken_or b c d e first second = ap (λ z. z || d) first ∙ ap (λ z. c || z) second
-
   same_ids : (a b : CandId) → ((g a).0 == (g b).0) ≡ (a.0 == b.0)
   same_ids a b = elim (same_cand a b) [
     | inl same ↦ eq-eqb (g a).0 (g b).0 (ap (λ (c : CandId). (g c).0) same) ∙ sym (eq-eqb a.0 b.0 (ap (λ (c : CandId). c.0) same))
@@ -214,8 +211,8 @@ module _ (g : CandId → CandId) (f : Person → Person) (keeps : KeepsOrder g f
   taken_map : (taken : List Person) (x : Person) → is_taken (map f taken) (f x) ≡ is_taken taken x
   taken_map [] x = refl
   taken_map (o ∷ taken) x =
-      taken_or ((f o).id.0 == (f x).id.0) (o.id.0 == x.id.0) (is_taken (map f taken) (f x)) (is_taken taken x)
-      (ap (λ (i : CandId). i.0 == (f x).id.0) (keeps.id o) ∙ (ap (λ (i : CandId). (g o.id).0 == i.0) (keeps.id x) ∙ same_ids o.id x.id)) (taken_map taken x)
+      let same = ap (λ (i : CandId). i.0 == (f x).id.0) (keeps.id o) ∙ (ap (λ (i : CandId). (g o.id).0 == i.0) (keeps.id x) ∙ same_ids o.id x.id) in
+      ap (λ z. z || is_taken (map f taken) (f x)) same ∙ ap (λ z. (o.id.0 == x.id.0) || z) (taken_map taken x)
 
   without_map : (people taken : List Person) → without (map f people) (map f taken) ≡ map f (without people taken)
   without_map people taken = filter_map f (λ person. not (is_taken (map f taken) person)) (λ person. not (is_taken taken person)) people (λ x. ap not (taken_map taken x))

@@ -44,13 +44,10 @@ module _ (lists : ℕ → ListId) (cutoffs : ℕ → List StepCutoff) (person : 
   first_along [] None outside inside = refl
   first_along [] (Some own) outside inside = absurd (let less = (inside own refl).0 in omega (arith, less))
   first_along (prog ∷ progs) None outside inside = inr (
-    (λ within. outside prog.0 (first_less prog progs) (first_less prog progs) within),
+    (λ within. outside prog.0 (omega (arith, first_place prog progs prog.0 refl)) (omega (arith, first_place prog progs prog.0 refl)) within),
     first_along progs None (λ other less later. outside other (let most = most_place prog progs other in omega (arith, most, less)) (let most = most_place prog progs other in omega (arith, most, less)))
         (λ own has. absurd (cc)),
   )
-    where
-      first_less : (first : ProgId) (rest : List ProgId) → place_of (first ∷ rest) first.0 < length (first ∷ rest)
-      first_less first rest = (let zero = first_place first rest first.0 refl in omega (arith, zero))
   first_along (prog ∷ progs) (Some own) outside inside = elim (cases_Bool (prog.0 == own.prog.0)) [
     | inl same ↦
         let number : prog.0 ≡ own.prog.0 = eqb-true _ _ same in

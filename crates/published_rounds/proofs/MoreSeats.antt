@@ -1,5 +1,5 @@
 -- With more seats a programme admits from the same people at most as many more as there are seats more.
-use Rattle.std.proofs.Common.{◌≡◌, ◌≤◌, ◌+◌, ◌-◌, inl, inr, ℕ, Bool, true, false, List, [], ◌∷◌, Option, Some, None, length, map, min, not, arith, refl, ap, ◌∙◌, if◌then◌else◌}
+use Rattle.std.proofs.Common.{◌≡◌, ◌≤◌, ◌+◌, ◌-◌, inl, inr, ℕ, Bool, true, false, List, [], ◌∷◌, Option, Some, None, length, map, not, arith, refl, ap, ◌∙◌, if◌then◌else◌}
 use Rattle.std.specs.Prelude.{sum_by}
 use Rattle.std.specs.List.{filter}
 use Rattle.std.proofs.lemmas.List.{length-take}
@@ -147,10 +147,7 @@ module _ (more_seats : MoreSeats) (refused : RefusedStaysRefused) (exists : Choi
       let two = sized (step_with seats.list (seats_of more kind) fewer) others (is_more_step kind fewer (sublist_again fewer people all less part)) second in
       let size = length-sublist fewer people less in
       let r = raise_is kind in
-      by (length chosen) (length others) (seats_of seats kind).seats (seats_of more kind).seats (raise kind) (length people) (length fewer) one two size r
-    where
-      by : (c o s t r p q : ℕ) → c ≡ min s p → o ≡ min t q → q ≤ p → t ≡ s + r → o ≤ c + r
-      by c o s t r p q one two size e = omega (arith, one, two, size, e)
+      omega (arith, one, two, size, r)
 
   few_of : (kind : StepKind) → is_dereserved kind ≡ false → length (b kind) ≤ length (a kind) + raise kind
   few_of kind own =

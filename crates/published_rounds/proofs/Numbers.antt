@@ -39,13 +39,11 @@ module _ (number : ℕ → ℕ) (rises : (m n : ℕ) → m < n → number m < nu
   same_common (Relaxed n) = refl
 
   same_ahead : (p q : Place) → is_ahead (number_of (place_with number p)) (number_of (place_with number q)) ≡ is_ahead (number_of p) (number_of q)
-  same_ahead Absent q = refl
-  same_ahead (Common m) Absent = refl
   same_ahead (Common m) (Common n) = same_test m n
   same_ahead (Common m) (Relaxed n) = same_test m n
-  same_ahead (Relaxed m) Absent = refl
   same_ahead (Relaxed m) (Common n) = same_test m n
   same_ahead (Relaxed m) (Relaxed n) = same_test m n
+  same_ahead p q = refl
 
   one_place : (p q : Place) → place_with number p ≡ place_with number q → p ≡ q
   one_place Absent Absent e = refl

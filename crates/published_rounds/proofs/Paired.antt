@@ -1,5 +1,5 @@
 -- Registers in the same order, candidate by candidate: each id is renamed to that of the partner, and then only the numbers differ.
-use Rattle.std.proofs.Common.{◌≡◌, ◌≢◌, ◌+◌, ◌<◌, ◌==◌, inl, inr, ℕ, zero, suc, Bool, true, false, List, [], ◌∷◌, Some, map, arith, refl, sym, ap, ◌∙◌, subst, if◌then◌else◌}
+use Rattle.std.proofs.Common.{◌≡◌, ◌≢◌, ◌+◌, ◌<◌, ◌==◌, inl, inr, ℕ, zero, suc, Bool, List, [], ◌∷◌, Some, map, arith, refl, sym, ap, ◌∙◌, subst, if◌then◌else◌}
 use Rattle.std.specs.Prelude.{◌↔◌, ◌⊎◌, slice_get}
 use Rattle.std.proofs.lemmas.Bool.{cases_eq, eq-eqb, ne_eqb}
 use Rattle.std.proofs.lemmas.List.{length-map}
@@ -54,9 +54,6 @@ partner far [] others id = record { 0 = id.0 + far }
 partner far (a ∷ people) [] id = record { 0 = id.0 + far }
 partner far (a ∷ people) (b ∷ others) id = if a.id.0 == id.0 then b.id else partner far people others id
 
-choose : (t other : Bool) (one two : CandId) → t ≡ other → (if t then one else two) ≡ (if other then one else two)
-choose t other one two e = ap (λ (z : Bool). if z then one else two) e
-
 -- the id is that of a pair, or of nobody
 record IsOfPair (people others : List Person) (id found : CandId) : Type 0 where
   at : ℕ
@@ -90,9 +87,9 @@ partner_at : (far : ℕ) (people others : List Person) (i : ℕ) (a b : Person) 
 partner_at far (p ∷ people) (q ∷ others) zero a b apart at at' =
     let mine : p.id.0 ≡ a.id.0 = cc in
     let its : q.id ≡ b.id = cc in
-    choose (p.id.0 == a.id.0) true q.id (partner far people others a.id) (eq-eqb p.id.0 a.id.0 mine) ∙ its
+    ap (λ (z : Bool). if z then q.id else partner far people others a.id) (eq-eqb p.id.0 a.id.0 mine) ∙ its
 partner_at far (p ∷ people) (q ∷ others) (suc i) a b apart at at' =
-    choose (p.id.0 == a.id.0) false q.id (partner far people others a.id)
+    ap (λ (z : Bool). if z then q.id else partner far people others a.id)
     (ne_eqb p.id.0 a.id.0 (λ e. all-get (λ (other : Person). p.id ≢ other.id) people i a apart.0 at (same_cand p.id a.id e)))
     ∙ partner_at far people others i a b apart.1 at at'
 partner_at far people others i a b apart at at' = absurd (cc)

@@ -34,9 +34,8 @@ length_if false p x ps xs same = same
 -- those who hold seats that pass a test are as many as such seats
 pub as_many : (f : Option Seat → Bool) (seekers : List Seeker) (seats : List (Option Seat)) → length seats ≡ length seekers → length (those (λ s seat. f seat) seekers seats) ≡ length (filter f seats)
 as_many f [] [] full = refl
-as_many f [] (seat ∷ seats) full = absurd (omega (arith, full))
-as_many f (s ∷ seekers) [] full = absurd (omega (arith, full))
 as_many f (s ∷ seekers) (seat ∷ seats) full = length_if (f seat) s.person seat _ _ (as_many f seekers seats (omega (arith, full)))
+as_many f seekers seats full = absurd (omega (arith, full))
 
 -- a seat of a step of a programme is one of it
 pub under_is : (prog : ℕ) (step : StepKind) (seat : Option Seat) → is_seat_under prog step seat ≡ true → seat ≡ Some (seat_at prog step)
