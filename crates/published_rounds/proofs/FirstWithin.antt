@@ -1,5 +1,5 @@
 -- Down the programmes, to the first one of which a person is within a line.
-use Rattle.std.proofs.Common.{◌≡◌, ◌+◌, ◌≤◌, ◌<◌, ◌==◌, inl, inr, ℕ, List, [], ◌∷◌, Option, Some, None, false, length, arith, refl, sym, ap, subst, eq-eqb}
+use Rattle.std.proofs.Common.{◌≡◌, ◌+◌, ◌≤◌, ◌<◌, ◌==◌, inl, inr, ℕ, List, [], ◌∷◌, Option, Some, None, false, length, arith, refl, sym, subst, eq-eqb}
 use Rattle.std.proofs.lemmas.Bool.{cases_Bool, cond-false, cond-true, eqb-true}
 use Rattle.office_base.specs.declared.asks.Seat.{Seat}
 use Rattle.office_base.specs.declared.person.ListId.{ListId}
@@ -9,6 +9,7 @@ use Rattle.office_base.specs.declared.step.StepKind.{StepKind}
 use Rattle.allocations.specs.Market.{place_of, rank_of}
 use Rattle.list_cutoffs.specs.declared.cutoffs.StepCutoff.{StepCutoff}
 use Rattle.programme_cutoffs.specs.Reading.{IsWithinFirst, IsWithinLines, IsWithinStep}
+use Rattle.history_laws.proofs.Fits.{the_prog}
 use Rattle.published_rounds.specs.Cutoffs.{IsSeatOfFirst}
 
 -- a line is one of its step
@@ -51,7 +52,7 @@ module _ (lists : ℕ → ListId) (cutoffs : ℕ → List StepCutoff) (person : 
   first_along (prog ∷ progs) (Some own) outside inside = elim (cases_Bool (prog.0 == own.prog.0)) [
     | inl same ↦
         let number : prog.0 ≡ own.prog.0 = eqb-true _ _ same in
-        inl (own, refl, one_programme own.prog prog (sym number), subst (λ (n : ℕ). IsWithinFirst (lists n) person own.step (cutoffs n)) (sym number) (inside own refl).1)
+        inl (own, refl, the_prog own.prog prog (sym number), subst (λ (n : ℕ). IsWithinFirst (lists n) person own.step (cutoffs n)) (sym number) (inside own refl).1)
     | inr other ↦
         let next = later_place prog progs own.prog.0 other in
         inr (
@@ -63,6 +64,3 @@ module _ (lists : ℕ → ListId) (cutoffs : ℕ → List StepCutoff) (person : 
               (omega (arith, (inside own refl).0, next), (inside own refl).1)),
         )
   ]
-    where
-      one_programme : (one other : ProgId) → one.0 ≡ other.0 → one ≡ other
-      one_programme one other same = ap (λ (n : ℕ). let prog : ProgId = record { 0 = n } in prog) same

@@ -75,27 +75,18 @@ own_whole n list front (Some x) is own =
     let l = lengths n list front x.prog.0 is in
     omega (arith, l.place own, l.shorter, own)
 
+-- the rank of a seat by the front is not behind that by the list
+rank_front : (n : ℕ) (list front : List ProgId) (seat : Option Seat) → IsFrontOf n list front → rank_of front seat ≤ rank_of list seat
+rank_front n list front None is = (lengths n list front 0 is).shorter
+rank_front n list front (Some x) is = (lengths n list front x.prog.0 is).ahead
+
 -- who applies by the front applies by the list
 applies_whole : (n p : ℕ) (list front : List ProgId) (seat : Option Seat) → IsFrontOf n list front → applies p front seat ≡ true → applies p list seat ≡ true
 applies_whole n p list front seat is h =
     let a = applies_means p front seat h in
     let l = lengths n list front p is in
     let at = l.place a.wants in
-    let shorter = l.shorter in
-    let wants = a.wants in
-    applies_true p list seat (omega (arith, at, shorter, wants)) (later seat a.within)
-  where
-    later : (x : Option Seat) → place_of front p ≤ rank_of front x → place_of list p ≤ rank_of list x
-    later None within =
-        let l = lengths n list front p is in
-        let at = l.place (applies_means p front seat h).wants in
-        let wants = (applies_means p front seat h).wants in
-        omega (arith, at, l.shorter, wants)
-    later (Some y) within =
-        let l = lengths n list front p is in
-        let at = l.place (applies_means p front seat h).wants in
-        let ahead = (lengths n list front y.prog.0 is).ahead in
-        omega (arith, at, ahead, within)
+    applies_true p list seat (omega (arith, at, l.shorter, a.wants)) (omega (arith, at, rank_front n list front seat is, a.within))
 
 -- who applies by the list, up to a seat of the front, applies by the front
 applies_front : (n p : ℕ) (list front : List ProgId) (y : Seat) → IsFrontOf n list front → place_of list y.prog.0 ≤ n → IsOwn front (Some y) → applies p list (Some y) ≡ true

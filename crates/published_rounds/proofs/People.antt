@@ -17,9 +17,9 @@ use Rattle.office_moves.specs.State.{seat_of}
 use Rattle.history_laws.proofs.Fits.{full_seekers, map_at}
 use Rattle.published_rounds.specs.Published.{market_then, matrix_then, wanted_then}
 use Rattle.published_rounds.proofs.Places.{AreOrderly, course_of, in_round, place_among}
-use Rattle.published_rounds.specs.Fair.{AreFairOver, IsDecided, IsFirstOpen, IsOpenTo}
+use Rattle.published_rounds.specs.Fair.{AreFairOver, IsDecided, IsOpenTo}
 use Rattle.published_rounds.specs.FairLaws.{ClosingPlacesDecide, NoSeatIsWasted, NobodyIsEnviedWhereFair, SeatsAreWithinWhereFair}
-use Rattle.published_rounds.specs.People.{AreFairTo, AreJustified, FairSeatsAreJustified, IsDecidedFor, IsFirstOpenFor, IsOpenFor, PublishedRoundsAreJustified, seats_by, seekers_by}
+use Rattle.published_rounds.specs.People.{AreFairTo, AreJustified, FairSeatsAreJustified, IsDecidedFor, IsOpenFor, PublishedRoundsAreJustified, seats_by, seekers_by}
 use Rattle.published_rounds.proofs.FairThen.{fair_over}
 use Rattle.published_rounds.proofs.Numbered.{map_back}
 
@@ -78,15 +78,14 @@ module _ (version : ℕ) (table : SeatTable) (people : List Person) (wanted : �
         not_better = subst (λ (h : Person). IsBetter (list_in table p) h person → ⊥) same o.not_better;
       }
 
-  firsts : (p : ℕ) (person : Person) → IsFirstOpenFor table people (wanted person.id.0) got p person → IsFirstOpen table seekers seats (as_seeker person) p
-  firsts p person f = record { wanted = f.wants_it; is_open = opens p person f.is_open; none_before = λ other less o. f.none_before other less (opened other person o) }
-
-  first : (p : ℕ) (person : Person) → IsFirstOpen table seekers seats (as_seeker person) p → IsFirstOpenFor table people (wanted person.id.0) got p person
-  first p person f = record { wants_it = f.wanted; is_open = opened p person f.is_open; none_before = λ other less o. f.none_before other less (opens other person o) }
-
   decided_for : (person : Person) → IsDecided table seekers seats (as_seeker person) (got person.id.0) → IsDecidedFor table people (wanted person.id.0) got person
   decided_for person d = record {
-    seated = λ p. (λ of_it. first p person ((d.seated p).0 of_it), λ f. (d.seated p).1 (firsts p person f));
+    seated = λ p. (
+      λ of_it.
+          let f = (d.seated p).0 of_it in
+          record { wants_it = f.wanted; is_open = opened p person f.is_open; none_before = λ other less o. f.none_before other less (opens other person o) },
+      λ f. (d.seated p).1 (record { wanted = f.wants_it; is_open = opens p person f.is_open; none_before = λ other less o. f.none_before other less (opened other person o) }),
+    );
     unseated = (
       λ none p wants_it o. d.unseated.0 none p wants_it (opens p person o),
       λ none. d.unseated.1 (λ p wants_it o. none p wants_it (opened p person o)),

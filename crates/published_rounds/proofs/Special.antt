@@ -69,8 +69,8 @@ module _ (facts : SeasonFacts) (table : SeatTable) (rows : List AllotRow) (body 
   full_lists : length lists ≡ length facts.people
   full_lists = lists_full (facts_of special.season) season_sound ∙ ap length same_people
 
-  full_seeks : length (all_whole facts.people) ≡ length lists
-  full_seeks = length-map facts.people (λ (person : Person). Whole) ∙ sym full_lists
+  full : length seekers ≡ length facts.people
+  full = length_seekers left facts.people lists (all_whole facts.people) full_lists (length-map facts.people (λ (person : Person). Whole) ∙ sym full_lists)
 
   over_seekers : RoundsAreFair → AreFairOver facts.version left seekers special.round.seats
   over_seekers fair = fair facts.version left facts.people lists 1 (all_whole facts.people) special.round over.season.seats enter over.round
@@ -94,8 +94,6 @@ module _ (facts : SeasonFacts) (table : SeatTable) (rows : List AllotRow) (body 
 pub special_rounds_are_justified : RoundsAreFair → FairSeatsAreJustified → SpecialRoundsAreJustified
 special_rounds_are_justified fair justify facts table rows body special sound over =
     let left = special.season.matrix in
-    let size = length_seekers left facts.people (lists_in special.season.choices) (all_whole facts.people) (full_lists facts table rows body special sound over)
-    (full_seeks facts table rows body special sound over) in
     justify facts.version left facts.people (list_of special.season.choices) (seat_of facts (Some special.round))
     (fair_to facts.version left facts.people (list_of special.season.choices) (seat_of facts (Some special.round)) (seekers facts table rows body special sound over) special.round.seats
-    size (who facts table rows body special sound over) (gets facts table rows body special sound over) (over_seekers facts table rows body special sound over fair))
+    (full facts table rows body special sound over) (who facts table rows body special sound over) (gets facts table rows body special sound over) (over_seekers facts table rows body special sound over fair))
