@@ -1,33 +1,28 @@
 -- Two calls with the same words that find the same end in one way, command by command.
-use Rattle.std.proofs.Common.{◌≡◌, ◌⊎◌, inl, inr, ℕ, Bool, true, false, List, Some, refl, sym, ◌∙◌, subst}
+use Rattle.std.proofs.Common.{◌≡◌, inl, inr, ℕ, Bool, true, false, List, Some, refl, sym, ◌∙◌, subst}
 use Rattle.office_base.specs.Outside.{Appends}
 use Rattle.office_base.specs.declared.asks.Request.{Request}
 use Rattle.kept_rows.specs.Tables.{AreTold, IsFound, IsTold, Tables, Untold, NoSeason, Records, still}
-use Rattle.season_file.specs.Season.{IsSeasonWith, content_of}
+use Rattle.season_file.specs.Season.{IsSeasonWith}
 use Rattle.season_file.specs.declared.season.Season.{Season}
 use Rattle.season_generator.specs.Bundle.{generated}
 use Rattle.season_facts.specs.Season.{facts_of}
-use Rattle.office_moves.specs.State.{State, opening}
-use Rattle.season_commands.specs.Runs.{AfterSome}
-use Rattle.season_commands.specs.Tally.{CountsAll}
-use Rattle.season_commands.specs.declared.tally.Tally.{Tally}
 use Rattle.one_output.specs.Laws.{GiveOneSeason, OneOutput, OneTally}
 use Rattle.command_answers.specs.Answers.{Answers, HaveOneAnswer}
 use Rattle.command_answers.specs.Status.{IsAnswered}
-use Rattle.command_answers.specs.Writes.{IsTextOf, IsWantText, Writes}
+use Rattle.command_answers.specs.Writes.{Writes}
 use Rattle.command_answers.specs.declared.status.Status.{Status}
-use Rattle.command_answers.specs.declared.status.Status.TheVariants.{Ok as Done, Usage, BadInput}
+use Rattle.command_answers.specs.declared.status.Status.TheVariants.{Ok as Done, Usage}
 use Rattle.command_answers.proofs.Answered.{by_answer}
-use Rattle.season_commands.specs.Check.{IsBundle, IsLeftBundle, bundle_answers, check_answers}
-use Rattle.season_commands.specs.Office.{EndsOffice}
+use Rattle.season_commands.specs.Check.{bundle_answers, check_answers}
 use Rattle.resume_command.specs.Resume.{EndsResume}
-use Rattle.season_commands.specs.Run.{EndsRun, EndsSeason, IsUnbegunText, not_empty_line}
+use Rattle.season_commands.specs.Run.{EndsRun, EndsSeason}
 use Rattle.step_command.specs.Step.{step_answers}
-use Rattle.season_commands.specs.Generated.{EndsGeneratedRun, EndsMade, IsCountedText, IsGeneratedText}
+use Rattle.season_commands.specs.Generated.{EndsGeneratedRun, EndsMade, IsGeneratedText}
 use Rattle.units_command.specs.Units.{EndsUnits, units_answers}
 use Rattle.special_command.specs.Special.{EndsSpecial}
-use Rattle.same_input_laws.specs.RunOutputs.{GeneratedRunsAreOne}
-use Rattle.same_input_laws.proofs.Written.{left_has, whole}
+use Rattle.same_input_laws.proofs.RunEnds.{IsRefused, bundle_of, counted_as_one, left_gives, made_cases, season_cases, want_only}
+use Rattle.same_input_laws.proofs.Written.{not_refused, texts_are_one, whole}
 use Rattle.same_input_laws.proofs.UnitEnds.{input_of, one_plain, plain_of}
 use Rattle.same_input_laws.specs.Keep.{HoldTheSame}
 use Rattle.same_input_laws.specs.ResumeOutputs.{IsVisible, ResumesAreOne}
@@ -54,7 +49,6 @@ pub record Laws : Type 0 where
   pub seasons : GiveOneSeason
   pub outputs : OneOutput
   pub tally : OneTally
-  pub generated : GeneratedRunsAreOne
   pub resumes : ResumesAreOne
   pub specials : SpecialsAreOne
   pub audits : EachAuditIsOne
@@ -65,53 +59,7 @@ record IsOne (status end : Status) (output again : List ℕ) (after later : Tabl
   one_output : output ≡ again
   kept : HoldTheSame after later
 
--- ---- one text
-
--- an answer with one text is the output, or the line of a fault
-text_cases : (answers : Answers) (bytes : List ℕ) (status : Status) (output : List ℕ) → IsAnswered status → Writes (IsTextOf answers (Some bytes)) status output
-    → ((status ≡ Done) × answers.IsOutput bytes output) ⊎ ((status ≡ BadInput) × answers.IsFaultLine bytes output)
-text_cases answers bytes status output answered writes =
-    by_answer (λ s. IsTextOf answers (Some bytes) s output → ((s ≡ Done) × answers.IsOutput bytes output) ⊎ ((s ≡ BadInput) × answers.IsFaultLine bytes output))
-    (λ text. inl (refl, left_has answers.IsOutput bytes output text)) (λ text. absurd text) (λ text. inr (refl, left_has answers.IsFaultLine bytes output text)) (λ text. absurd text)
-    (λ text. absurd text) status answered (whole (IsTextOf answers (Some bytes)) status output answered writes)
-
-texts_are_one : (answers : Answers) (bytes : List ℕ) → HaveOneAnswer answers bytes → (status end : Status) (output again : List ℕ) → IsAnswered status → IsAnswered end
-    → Writes (IsTextOf answers (Some bytes)) status output → Writes (IsTextOf answers (Some bytes)) end again → (status ≡ end) × (output ≡ again)
-texts_are_one answers bytes one status end output again answered answered' first second =
-    elim (text_cases answers bytes status output answered first) [
-      | inl a ↦ elim (text_cases answers bytes end again answered' second) [
-        | inl b ↦ (a.0 ∙ sym b.0, one.one_output output again a.1 b.1)
-        | inr b ↦ absurd (one.apart (one.of_input output a.1) (one.of_fault again b.1))
-      ]
-      | inr a ↦ elim (text_cases answers bytes end again answered' second) [
-        | inl b ↦ absurd (one.apart (one.of_input again b.1) (one.of_fault output a.1))
-        | inr b ↦ (a.0 ∙ sym b.0, one.one_line output again a.1 b.1)
-      ]
-    ]
-
--- bytes with a text of their own have a fault, where no output is
-refused : (answers : Answers) (bytes : List ℕ) → HaveOneAnswer answers bytes → ((output : List ℕ) → answers.IsOutput bytes output → ⊥) → (status : Status) (output : List ℕ) → IsAnswered status
-    → Writes (IsTextOf answers (Some bytes)) status output → answers.IsFaulty bytes
-refused answers bytes one none status output answered writes = elim (text_cases answers bytes status output answered writes) [
-  | inl done ↦ absurd (none output done.1)
-  | inr bad ↦ one.of_fault output bad.1
-]
-
 -- ---- a season
-
--- a keeper that holds a season was refused, by the tables
-record IsRefused (before after : Tables) (status : Status) (output : List ℕ) : Type 0 where
-  is : status ≡ BadInput
-  text : output ≡ not_empty_line
-  found : IsFound true (still before after)
-  left : AreTold before after
-
-unbegun : (before after : Tables) (status : Status) (output : List ℕ) → IsAnswered status → Writes (IsUnbegunText (still before after)) status output → AreTold before after
-    → IsRefused before after status output
-unbegun before after status output answered writes told =
-    by_answer (λ s. IsUnbegunText (still before after) s output → IsRefused before after s output) (λ text. absurd text) (λ text. absurd text)
-    (λ text. record { is = refl; text = text.1; found = text.0; left = told }) (λ text. absurd text) (λ text. absurd text) status answered
-    (whole (IsUnbegunText (still before after)) status output answered writes)
 
 both_refused : (before after later : Tables) (status end : Status) (output again : List ℕ) → IsRefused before after status output → IsRefused before later end again
     → IsOne status end output again after later
@@ -127,20 +75,6 @@ found_apart (Records kept) told some none = cc none
 not_both : (before after later : Tables) → IsVisible before after → IsVisible before later → IsFound true (still before after) → IsFound false (still before later) → ⊥
 not_both before after later told seen some none =
     found_apart (still before after) told some (subst (IsFound false) (same_tables before after later told seen) none)
-
--- all requests were answered
-record IsRun (season : Season) (script : List Request) (before after : Tables) (status : Status) (output : List ℕ) : Type 0 where
-  is : status ≡ Done
-  found : IsFound false (still before after)
-  state : State
-  ends : AfterSome (facts_of season) opening script output state after
-
-season_cases : (season : Season) (script : List Request) (before after : Tables) (status : Status) (output : List ℕ) → IsAnswered status → EndsSeason season script before after status output
-    → IsRefused before after status output ⊎ IsRun season script before after status output
-season_cases season script before after status output answered (inl first) = inl (unbegun before after status output answered first.0 first.1)
-season_cases season script before after status output answered (inr first) =
-    by_answer (λ s. EndsOffice (facts_of season) opening script after s output → IsRefused before after s output ⊎ IsRun season script before after s output)
-    (λ ends. inr (record { is = refl; found = first.0; state = ends.0; ends = ends.1 })) (λ ends. absurd ends) (λ ends. absurd ends) (λ ends. absurd ends) (λ ends. absurd ends) status answered first.1
 
 module _ (laws : Laws) (before after later : Tables) (told : IsVisible before after) (seen : IsVisible before later) (status end : Status) (output again : List ℕ) (answered : IsAnswered status)
     (answered' : IsAnswered end) where
@@ -167,20 +101,14 @@ module _ (laws : Laws) (before after later : Tables) (told : IsVisible before af
     ]
   ]
 
-  left_gives : (bytes : List ℕ) (season : Season) (script : List Request) → IsLeftBundle true (Some bytes) season script → IsSeasonWith true bytes season script
-  left_gives bytes season script left = subst (λ (b : List ℕ). IsSeasonWith true b season script) left.1 left.2
-
-  is_bundle : (bytes : List ℕ) (season : Season) (script : List Request) → IsLeftBundle true (Some bytes) season script → IsBundle true bytes
-  is_bundle bytes season script left = let give = left_gives bytes season script left in (content_of season give.row, script, give.given)
-
   runs_are_one : (bytes : List ℕ) → EndsRun (Some bytes) before after status output → EndsRun (Some bytes) before later end again → One
   runs_are_one bytes (inl first) (inl second) =
       let same = texts_are_one (bundle_answers true) bytes (laws.bundles true bytes) status end output again answered answered' first.0 second.0 in
       record { one_status = same.0; one_output = same.1; kept = left_alike before after later (left_told before after first.1) (left_told before later second.1) }
   runs_are_one bytes (inl first) (inr second) =
-      absurd ((laws.bundles true bytes).apart (is_bundle bytes second.0 second.1 second.2) (refused (bundle_answers true) bytes (laws.bundles true bytes) (λ text none. none) status output answered first.0))
+      absurd (not_refused (bundle_answers true) bytes (laws.bundles true bytes) (λ text none. none) status output answered first.0 (bundle_of bytes second.0 second.1 second.2))
   runs_are_one bytes (inr first) (inl second) =
-      absurd ((laws.bundles true bytes).apart (is_bundle bytes first.0 first.1 first.2) (refused (bundle_answers true) bytes (laws.bundles true bytes) (λ text none. none) end again answered' second.0))
+      absurd (not_refused (bundle_answers true) bytes (laws.bundles true bytes) (λ text none. none) end again answered' second.0 (bundle_of bytes first.0 first.1 first.2))
   runs_are_one bytes (inr first) (inr second) =
       seasons_are_one bytes first.0 second.0 first.1 second.1 (left_gives bytes first.0 first.1 first.2) (left_gives bytes second.0 second.1 second.2) first.3 second.3
 
@@ -189,9 +117,9 @@ module _ (laws : Laws) (before after later : Tables) (told : IsVisible before af
       let same = texts_are_one units_answers bytes (laws.units bytes) status end output again answered answered' first.0 second.0 in
       record { one_status = same.0; one_output = same.1; kept = left_alike before after later (left_told before after first.1) (left_told before later second.1) }
   units_are_one bytes (inl first) (inr second) =
-      absurd ((laws.units bytes).apart (input_of bytes second.0 second.1 second.2) (refused units_answers bytes (laws.units bytes) (λ text none. none) status output answered first.0))
+      absurd (not_refused units_answers bytes (laws.units bytes) (λ text none. none) status output answered first.0 (input_of bytes second.0 second.1 second.2))
   units_are_one bytes (inr first) (inl second) =
-      absurd ((laws.units bytes).apart (input_of bytes first.0 first.1 first.2) (refused units_answers bytes (laws.units bytes) (λ text none. none) end again answered' second.0))
+      absurd (not_refused units_answers bytes (laws.units bytes) (λ text none. none) end again answered' second.0 (input_of bytes first.0 first.1 first.2))
   units_are_one bytes (inr first) (inr second) =
       let (text, a) = plain_of bytes first.0 first.1 first.2 in
       let (other, b) = plain_of bytes second.0 second.1 second.2 in
@@ -243,51 +171,30 @@ module _ (laws : Laws) (before after later : Tables) (told : IsVisible before af
       let b = made n seed end again answered' second.0 in
       left_as (a.0 ∙ sym b.0, a.1 ∙ sym b.1) (left_told before after first.1) (left_told before later second.1)
 
-  want_only : (how : Status) (text : List ℕ) → IsAnswered how → Writes IsWantText how text → ⊥
-  want_only how text is writes = by_answer (λ s. IsWantText s text → ⊥) (λ t. t) (λ t. t) (λ t. t) (λ t. t) (λ t. t) how is (whole IsWantText how text is writes)
-
-  -- all requests of a generated season were answered
-  abbrev Counted : Season → List Request → Tables → Status → Type 0
-  Counted season script left how = (how ≡ Done) × (IsFound false (still before left) × ((state : State) × (tally : Tally) × CountsAll (facts_of season) opening script state left tally))
-
-  made_cases : (n seed : ℕ) (season : Season) (script : List Request) (left : Tables) (how : Status) (text : List ℕ) → IsAnswered how → EndsMade n seed season script before left how text
-      → IsRefused before left how text ⊎ Counted season script left how
-  made_cases n seed season script left how text is (inl first) = inl (unbegun before left how text is first.0 first.1)
-  made_cases n seed season script left how text is (inr first) =
-      by_answer (λ s. IsCountedText n seed (facts_of season) script left s text → IsRefused before left s text ⊎ Counted season script left s) (λ t. inr (refl, (first.0, (t.0, t.1, t.2))))
-      (λ t. absurd t) (λ t. absurd t) (λ t. absurd t) (λ t. absurd t) how is (whole (IsCountedText n seed (facts_of season) script left) how text is first.1)
-
   made_as_one : (n seed : ℕ) (season other : Season) (script more : List Request) → IsSeasonWith true (generated n seed) season script → IsSeasonWith true (generated n seed) other more
-      → EndsMade n seed season script before after status output → EndsMade n seed other more before later end again → (status ≡ end) × HoldTheSame after later
-  made_as_one n seed season other script more give give' first second = elim (made_cases n seed season script after status output answered first) [
-    | inl a ↦ elim (made_cases n seed other more later end again answered' second) [
-      | inl b ↦ (a.is ∙ sym b.is, left_alike before after later a.left b.left)
-      | inr b ↦ absurd (not_both before after later told seen a.found b.1.0)
+      → EndsMade n seed season script before after status output → EndsMade n seed other more before later end again → One
+  made_as_one n seed season other script more give give' first second = elim (made_cases n seed season script before after status output answered first) [
+    | inl a ↦ elim (made_cases n seed other more before later end again answered' second) [
+      | inl b ↦ both_refused before after later status end output again a b
+      | inr b ↦ absurd (not_both before after later told seen a.found b.found)
     ]
-    | inr a ↦ elim (made_cases n seed other more later end again answered' second) [
-      | inl b ↦ absurd (not_both before later after seen told b.found a.1.0)
+    | inr a ↦ elim (made_cases n seed other more before later end again answered' second) [
+      | inl b ↦ absurd (not_both before later after seen told b.found a.found)
       | inr b ↦
-          let one = a.1.1.2 in
-          let two = b.1.1.2 in
-          let same = laws.tally true (generated n seed) season other script more one.0 two.0 a.1.1.0 b.1.1.0 give give' one.2.moves two.2.moves one.1 two.1 in
+          let same = counted_as_one laws.tally n seed season other script more before after before later status end output again give give' a b in
           let said = (laws.seasons.bundles true (generated n seed) season other script more give give').0 in
-          (a.0 ∙ sym b.0, stand_alike (facts_of season) (facts_of other) a.1.1.0 b.1.1.0 after later said same.1 one.2.stands two.2.stands)
+          record {
+            one_status = a.is ∙ sym b.is;
+            one_output = same.0;
+            kept = stand_alike (facts_of season) (facts_of other) a.state b.state after later said same.1 a.counts.2.stands b.counts.2.stands;
+          }
     ]
   ]
 
   generated_runs : (n seed : ℕ) → EndsGeneratedRun n seed before after status output → EndsGeneratedRun n seed before later end again → One
-  generated_runs n seed first second =
-      let same = by first second in
-      record {
-        one_status = same.0;
-        one_output = laws.generated n seed output again before after before later status answered first (subst (λ (s : Status). EndsGeneratedRun n seed before later s again) (sym same.0) second);
-        kept = same.1;
-      }
-    where
-      by : EndsGeneratedRun n seed before after status output → EndsGeneratedRun n seed before later end again → (status ≡ end) × HoldTheSame after later
-      by (inl a) b = absurd (want_only status output answered a.0)
-      by (inr a) (inl b) = absurd (want_only end again answered' b.0)
-      by (inr a) (inr b) = made_as_one n seed a.0 b.0 a.1 b.1 a.2 b.2 a.3 b.3
+  generated_runs n seed (inl a) b = absurd (want_only status output answered a.0)
+  generated_runs n seed (inr a) (inl b) = absurd (want_only end again answered' b.0)
+  generated_runs n seed (inr a) (inr b) = made_as_one n seed a.0 b.0 a.1 b.1 a.2 b.2 a.3 b.3
 
   -- ---- each command
 

@@ -1,4 +1,4 @@
-mod RunEnds
+pub mod RunEnds
 pub mod Written
 mod ResumeEnds
 pub mod Keep

@@ -1,5 +1,5 @@
 -- The same visible tables lead to one state of one season, or they have one line of a fault.
-use Rattle.std.proofs.Common.{◌≡◌, inl, inr, ℕ, Bool, false, List, [], refl, sym, ap, ◌∙◌, subst}
+use Rattle.std.proofs.Common.{◌≡◌, ◌⊎◌, inl, inr, ℕ, Bool, false, List, [], refl, sym, ap, ◌∙◌, subst}
 use Rattle.kept_rows.specs.Tables.{IsTold, NoSeason, Records, Tables, Untold, still}
 use Rattle.kept_rows.specs.declared.rows.Kept.{Kept}
 use Rattle.season_file.specs.Laws.{HasFault, HaveOneReading}
@@ -16,6 +16,7 @@ use Rattle.replays.specs.Replay.{IsReplayed}
 use Rattle.replays.specs.declared.fault.ReplayFault.{ReplayFault}
 use Rattle.replays.specs.Resume.{IsResumed, LeadTo}
 use Rattle.command_answers.specs.Status.{IsAnswered}
+use Rattle.command_answers.specs.Writes.{Writes}
 use Rattle.command_answers.specs.declared.status.Status.{Status}
 use Rattle.command_answers.specs.declared.status.Status.TheVariants.{BadInput, Differs}
 use Rattle.command_answers.proofs.Answered.{by_answer}
@@ -23,6 +24,7 @@ use Rattle.resume_command.specs.Resume.{IsKeptFaultLine, IsReplayFaultLine, IsUn
 use Rattle.resume_command.specs.Stray.{replay_line}
 use Rattle.one_output.specs.Laws.{OneKeptSeason, SeasonsAreSound}
 use Rattle.same_input_laws.specs.ResumeOutputs.{IsVisible}
+use Rattle.same_input_laws.proofs.Written.{whole}
 
 -- Records of a season lead to one state, or have one first fault.
 abbrev pub RecordsAreOne : Type 0
@@ -119,12 +121,12 @@ one_difference laws (Records kept) told line again first second =
     one_replay_line laws kept line again (subst (λ (k : Kept). IsReplayFaultLine k line) (sym first.1) first.2)
     (subst (λ (k : Kept). IsReplayFaultLine k again) (sym second.1) second.2)
 
--- The same tables have one line.
-pub one_unresumed : ReadingsAreOne → AreKept → (tables : Tables) → IsTold tables → (status : Status) (output again : List ℕ) → IsAnswered status → IsUnresumedText tables status output
-    → IsUnresumedText tables status again → output ≡ again
-one_unresumed readings laws tables told status output again answered =
-    by_answer (λ s. IsUnresumedText tables s output → IsUnresumedText tables s again → output ≡ again) (λ first second. absurd first) (λ first second. absurd first)
-    (one_kept_line readings tables told output again) (one_difference laws tables told output again) (λ first second. absurd first) status answered
+-- such a text is the line of a fault, or of a difference
+unresumed_cases : (tables : Tables) (status : Status) (text : List ℕ) → IsAnswered status → Writes (IsUnresumedText tables) status text
+    → ((status ≡ BadInput) × IsKeptFaultLine tables text) ⊎ ((status ≡ Differs) × IsUnresumedText tables Differs text)
+unresumed_cases tables status text answered writes =
+    by_answer (λ s. IsUnresumedText tables s text → ((s ≡ BadInput) × IsKeptFaultLine tables text) ⊎ ((s ≡ Differs) × IsUnresumedText tables Differs text)) (λ is. absurd is) (λ is. absurd is)
+    (λ is. inl (refl, is)) (λ is. inr (refl, is)) (λ is. absurd is) status answered (whole (IsUnresumedText tables) status text answered writes)
 
 -- Tables that lead to a state have no such line.
 pub no_kept_line : ReadingsAreOne → (tables : Tables) → IsTold tables → (facts : SeasonFacts) (state : State) (line : List ℕ) → IsResumed tables facts state → IsKeptFaultLine tables line → ⊥
@@ -151,10 +153,11 @@ no_difference laws (Records kept) told facts state line resumed is =
 
 -- Tables that lead to a state have no text of an office that does not resume.
 pub no_unresumed : ReadingsAreOne → AreKept → (tables : Tables) → IsTold tables → (facts : SeasonFacts) (state : State) (status : Status) (text : List ℕ) → IsAnswered status
-    → IsResumed tables facts state → IsUnresumedText tables status text → ⊥
-no_unresumed readings laws tables told facts state status text answered resumed =
-    by_answer (λ s. IsUnresumedText tables s text → ⊥) (λ is. is) (λ is. is) (no_kept_line readings tables told facts state text resumed)
-    (no_difference laws tables told facts state text resumed) (λ is. is) status answered
+    → IsResumed tables facts state → Writes (IsUnresumedText tables) status text → ⊥
+no_unresumed readings laws tables told facts state status text answered resumed writes = elim (unresumed_cases tables status text answered writes) [
+  | inl bad ↦ no_kept_line readings tables told facts state text resumed bad.1
+  | inr differs ↦ no_difference laws tables told facts state text resumed differs.1
+]
 
 -- ---- one status
 
@@ -168,16 +171,16 @@ text_or_rows readings (Records kept) told line again (inr first) second =
     let read = subst (λ (k : Kept). IsSeason k.season second.2.0) (sym second.1) second.2.2 in
     (readings false kept.season).apart (content_of second.2.0 read.row) [] first.2.0 read.given fault
 
--- The same tables have one status.
-pub one_unresumed_status : ReadingsAreOne → (tables : Tables) → IsTold tables → (status other : Status) (output again : List ℕ) → IsAnswered status → IsAnswered other
-    → IsUnresumedText tables status output → IsUnresumedText tables other again → status ≡ other
-one_unresumed_status readings tables told status other output again answered answered' =
-    by_answer (λ s. Same s other) (λ first second. absurd first) (λ first second. absurd first)
-    (by_answer (Same BadInput) (λ first second. absurd second) (λ first second. absurd second) (λ first second. refl)
-    (λ first second. absurd (text_or_rows readings tables told output again first second)) (λ first second. absurd second) other answered')
-    (by_answer (Same Differs) (λ first second. absurd second) (λ first second. absurd second) (λ first second. absurd (text_or_rows readings tables told again output second first))
-    (λ first second. refl) (λ first second. absurd second) other answered')
-    (λ first second. absurd first) status answered
-  where
-    Same : Status → Status → Type 0
-    Same s t = IsUnresumedText tables s output → IsUnresumedText tables t again → s ≡ t
+-- The same tables have one status and one line.
+pub one_unresumed : ReadingsAreOne → AreKept → (tables : Tables) → IsTold tables → (status other : Status) (output again : List ℕ) → IsAnswered status → IsAnswered other
+    → Writes (IsUnresumedText tables) status output → Writes (IsUnresumedText tables) other again → (status ≡ other) × (output ≡ again)
+one_unresumed readings laws tables told status other output again answered answered' first second = elim (unresumed_cases tables status output answered first) [
+  | inl a ↦ elim (unresumed_cases tables other again answered' second) [
+    | inl b ↦ (a.0 ∙ sym b.0, one_kept_line readings tables told output again a.1 b.1)
+    | inr b ↦ absurd (text_or_rows readings tables told output again a.1 b.1)
+  ]
+  | inr a ↦ elim (unresumed_cases tables other again answered' second) [
+    | inl b ↦ absurd (text_or_rows readings tables told again output b.1 a.1)
+    | inr b ↦ (a.0 ∙ sym b.0, one_difference laws tables told output again a.1 b.1)
+  ]
+]

@@ -7,7 +7,7 @@ use Rattle.units_command.specs.Input.{expansion}
 use Rattle.command_answers.specs.Answers.{HaveOneAnswer}
 use Rattle.units_command.specs.Units.{IsLeftExpansion, IsUnitsInput, units_answers}
 use Rattle.same_input_laws.specs.RunOutputs.{RunsAreOne}
-use Rattle.same_input_laws.proofs.Written.{not_refused, one_text}
+use Rattle.same_input_laws.proofs.Written.{not_refused, texts_are_one}
 use Rattle.same_input_laws.specs.UnitOutputs.{UnitsAreOne}
 
 -- ---- the plain bundle
@@ -32,7 +32,7 @@ input_of bytes season script left =
 
 pub units_are_one : ((bytes : List ℕ) → HaveOneAnswer units_answers bytes) → RunsAreOne → UnitsAreOne
 units_are_one one runs bytes output again before after others later status answered (inl first) (inl second) =
-    one_text units_answers bytes (one bytes) status output again answered first.0 second.0
+    (texts_are_one units_answers bytes (one bytes) status status output again answered answered first.0 second.0).1
 units_are_one one runs bytes output again before after others later status answered (inl first) (inr second) =
     absurd (not_refused units_answers bytes (one bytes) (λ text none. none) status output answered first.0 (input_of bytes second.0 second.1 second.2))
 units_are_one one runs bytes output again before after others later status answered (inr first) (inl second) =

@@ -127,7 +127,6 @@ pub fn calls_are_one<
     one_output::laws::one_season();
     one_output::laws::one_output();
     one_output::laws::one_tally();
-    commands_are_one();
     resumes_are_one();
     specials_are_one();
     audits_are_one();

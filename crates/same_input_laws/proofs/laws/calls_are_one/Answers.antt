@@ -12,7 +12,6 @@ returns g c = λ words first second status end.
       seasons = c.one_season.ensures;
       outputs = c.one_output.ensures;
       tally = c.one_tally.ensures;
-      generated = c.commands_are_one.ensures.generated;
       resumes = c.resumes_are_one.ensures;
       specials = c.specials_are_one.ensures;
       audits = c.audits_are_one.ensures;
