@@ -1,12 +1,12 @@
 -- An audit writes the same for the same bytes.
-use Rattle.std.proofs.Common.{◌≡◌, ◌++◌, inl, inr, ℕ, List, Some, refl, sym, ap, ◌∙◌, subst}
+use Rattle.std.proofs.Common.{◌≡◌, ◌++◌, inl, inr, ℕ, List, Some, refl, sym, ap, ◌∙◌}
 use Rattle.audit_rules.specs.declared.verdict.Verdict.{Verdict}
 use Rattle.audit_rules.specs.declared.verdict.Verdict.TheVariants.{Sound, Broken}
 use Rattle.season_audit.specs.declared.verdict.BestVerdict.{BestVerdict}
 use Rattle.season_audit.specs.declared.verdict.BestVerdict.TheVariants.{Best, NotBest}
 use Rattle.one_output.specs.VerdictLaws.{OneVerdictOfBytes}
-use Rattle.command_answers.specs.Answers.{HasLeft}
 use Rattle.command_answers.specs.Status.{IsAnswered}
+use Rattle.command_answers.specs.Writes.{Writes}
 use Rattle.command_answers.specs.declared.status.Status.{Status}
 use Rattle.command_answers.specs.declared.status.Status.TheVariants.{Ok as Done, BadInput, Broken as BrokenStatus}
 use Rattle.command_answers.proofs.Answered.{by_answer}
@@ -17,19 +17,36 @@ use Rattle.audit_command.specs.Texts.{sound_line}
 use Rattle.same_input_laws.specs.AuditOutputs.{AuditsAreOne, BestAuditsAreOne}
 use Rattle.same_input_laws.proofs.Dossiers.{Laws, one_best}
 
--- the line of a fault
-one_fault : ((bytes : List ℕ) → HaveOneAudit bytes) → (bytes output again : List ℕ) → HasLeft IsDossierFaultLine (Some bytes) output → HasLeft IsDossierFaultLine (Some bytes) again → output ≡ again
-one_fault audit bytes output again first second = (audit bytes).one_line output again (left_has IsDossierFaultLine bytes output first) (left_has IsDossierFaultLine bytes again second)
+-- ---- both
+
+-- a text of one kind is written with status 0, one of another kind if something is broken, or else the line of a fault
+data Ended (bytes : List ℕ) (Good Short : List ℕ → List ℕ → Type 0) (status : Status) (text : List ℕ) : Type 0 where
+  Well : status ≡ Done → Good bytes text → Ended bytes Good Short status text
+  Faulty : status ≡ BadInput → IsDossierFaultLine bytes text → Ended bytes Good Short status text
+  Less : status ≡ BrokenStatus → Short bytes text → Ended bytes Good Short status text
+
+-- what holds of texts of both kinds
+record AreTexts (bytes : List ℕ) (Good Short : List ℕ → List ℕ → Type 0) : Type 0 where
+  of_good : (text : List ℕ) → Good bytes text → AreDossier bytes
+  of_short : (text : List ℕ) → Short bytes text → AreDossier bytes
+  one_good : (text more : List ℕ) → Good bytes text → Good bytes more → text ≡ more
+  one_short : (text more : List ℕ) → Short bytes text → Short bytes more → text ≡ more
+  apart : (text more : List ℕ) → Good bytes text → Short bytes more → ⊥
+
+-- they have one status and one output
+one_end : (bytes : List ℕ) → HaveOneAudit bytes → (Good Short : List ℕ → List ℕ → Type 0) → AreTexts bytes Good Short → (status other : Status) (output again : List ℕ)
+    → Ended bytes Good Short status output → Ended bytes Good Short other again → (status ≡ other) × (output ≡ again)
+one_end bytes audit Good Short texts status other output again (Well e a) (Well f b) = (e ∙ sym f, texts.one_good output again a b)
+one_end bytes audit Good Short texts status other output again (Well e a) (Faulty f b) = absurd (audit.apart (texts.of_good output a) (audit.of_fault again b))
+one_end bytes audit Good Short texts status other output again (Well e a) (Less f b) = absurd (texts.apart output again a b)
+one_end bytes audit Good Short texts status other output again (Faulty e a) (Well f b) = absurd (audit.apart (texts.of_good again b) (audit.of_fault output a))
+one_end bytes audit Good Short texts status other output again (Faulty e a) (Faulty f b) = (e ∙ sym f, audit.one_line output again a b)
+one_end bytes audit Good Short texts status other output again (Faulty e a) (Less f b) = absurd (audit.apart (texts.of_short again b) (audit.of_fault output a))
+one_end bytes audit Good Short texts status other output again (Less e a) (Well f b) = absurd (texts.apart again output b a)
+one_end bytes audit Good Short texts status other output again (Less e a) (Faulty f b) = absurd (audit.apart (texts.of_short output a) (audit.of_fault again b))
+one_end bytes audit Good Short texts status other output again (Less e a) (Less f b) = (e ∙ sym f, texts.one_short output again a b)
 
 -- ---- `audit`
-
-one_audit_text : ((bytes : List ℕ) → HaveOneAudit bytes) → (bytes : List ℕ) (status : Status) (output again : List ℕ) → IsAnswered status → IsAuditText (Some bytes) status output
-    → IsAuditText (Some bytes) status again → output ≡ again
-one_audit_text audit bytes status output again answered =
-    by_answer (λ s. IsAuditText (Some bytes) s output → IsAuditText (Some bytes) s again → output ≡ again)
-    (λ first second. (audit bytes).one_output output again (inl (left_has IsSoundOutput bytes output first)) (inl (left_has IsSoundOutput bytes again second))) (λ first second. absurd first)
-    (one_fault audit bytes output again) (λ first second. absurd first)
-    (λ first second. (audit bytes).one_output output again (inr (left_has IsBrokenOutput bytes output first)) (inr (left_has IsBrokenOutput bytes again second))) status answered
 
 -- a dossier of which no clause is broken has no line of a broken one
 sound_not_broken : OneVerdictOfBytes → (bytes output again : List ℕ) → IsSoundOutput bytes output → IsBrokenOutput bytes again → ⊥
@@ -37,39 +54,21 @@ sound_not_broken one bytes output again first second =
     let e = (one bytes first.1.0 second.4.0 (Sound first.0) (Broken second.0 second.1 second.2 second.3) first.1.1 second.4.1 first.1.2.0.is second.4.2.0.is).0 in
     absurd (cc e)
 
--- bytes with the output of a dossier have no line of a fault
-no_fault : ((bytes : List ℕ) → HaveOneAudit bytes) → (bytes line : List ℕ) → AreDossier bytes → HasLeft IsDossierFaultLine (Some bytes) line → ⊥
-no_fault audit bytes line is fault = (audit bytes).apart is ((audit bytes).of_fault line (left_has IsDossierFaultLine bytes line fault))
-
-one_audit_status : ((bytes : List ℕ) → HaveOneAudit bytes) → OneVerdictOfBytes → (bytes : List ℕ) (status other : Status) (output again : List ℕ) → IsAnswered status → IsAnswered other
-    → IsAuditText (Some bytes) status output → IsAuditText (Some bytes) other again → status ≡ other
-one_audit_status audit one bytes status other output again answered answered' =
-    by_answer (λ s. Same s other)
-    (by_answer (Same Done) (λ first second. refl) (λ first second. absurd second) (λ first second. absurd (no_fault audit bytes again (of_sound output first) second)) (λ first second. absurd second)
-    (λ first second. absurd (sound_not_broken one bytes output again (left_has IsSoundOutput bytes output first) (left_has IsBrokenOutput bytes again second))) other answered')
-    (λ first second. absurd first)
-    (by_answer (Same BadInput) (λ first second. absurd (no_fault audit bytes output (of_sound again second) first)) (λ first second. absurd second) (λ first second. refl)
-    (λ first second. absurd second) (λ first second. absurd (no_fault audit bytes output (of_broken again second) first)) other answered')
-    (λ first second. absurd first)
-    (by_answer (Same BrokenStatus) (λ first second. absurd (sound_not_broken one bytes again output (left_has IsSoundOutput bytes again second) (left_has IsBrokenOutput bytes output first)))
-    (λ first second. absurd second) (λ first second. absurd (no_fault audit bytes again (of_broken output first) second)) (λ first second. absurd second) (λ first second. refl) other answered')
-    status answered
-  where
-    Same : Status → Status → Type 0
-    Same s t = IsAuditText (Some bytes) s output → IsAuditText (Some bytes) t again → s ≡ t
-
-    of_sound : (text : List ℕ) → HasLeft IsSoundOutput (Some bytes) text → AreDossier bytes
-    of_sound text h = (audit bytes).of_input text (inl (left_has IsSoundOutput bytes text h))
-
-    of_broken : (text : List ℕ) → HasLeft IsBrokenOutput (Some bytes) text → AreDossier bytes
-    of_broken text h = (audit bytes).of_input text (inr (left_has IsBrokenOutput bytes text h))
+audit_ended : (bytes : List ℕ) (status : Status) (text : List ℕ) → IsAnswered status → Writes (IsAuditText (Some bytes)) status text → Ended bytes IsSoundOutput IsBrokenOutput status text
+audit_ended bytes status text answered writes =
+    by_answer (λ s. IsAuditText (Some bytes) s text → Ended bytes IsSoundOutput IsBrokenOutput s text) (λ t. Well refl (left_has IsSoundOutput bytes text t)) (λ t. absurd t)
+    (λ t. Faulty refl (left_has IsDossierFaultLine bytes text t)) (λ t. absurd t) (λ t. Less refl (left_has IsBrokenOutput bytes text t)) status answered
+    (whole (IsAuditText (Some bytes)) status text answered writes)
 
 pub audits_are_one : ((bytes : List ℕ) → HaveOneAudit bytes) → OneVerdictOfBytes → AuditsAreOne
 audits_are_one audit one bytes output again status other answered answered' first second =
-    let text = whole (IsAuditText (Some bytes)) status output answered first in
-    let text' = whole (IsAuditText (Some bytes)) other again answered' second in
-    let same = one_audit_status audit one bytes status other output again answered answered' text text' in
-    (same, one_audit_text audit bytes status output again answered text (subst (λ (s : Status). IsAuditText (Some bytes) s again) (sym same) text'))
+    one_end bytes (audit bytes) IsSoundOutput IsBrokenOutput (record {
+      of_good = λ text h. (audit bytes).of_input text (inl h);
+      of_short = λ text h. (audit bytes).of_input text (inr h);
+      one_good = λ text more h h'. (audit bytes).one_output text more (inl h) (inl h');
+      one_short = λ text more h h'. (audit bytes).one_output text more (inr h) (inr h');
+      apart = sound_not_broken one bytes;
+    }) status other output again (audit_ended bytes status output answered first) (audit_ended bytes other again answered' second)
 
 -- ---- `audit best`
 
@@ -100,14 +99,6 @@ one_short audit one laws bytes output again (inr first) (inl second) =
 one_short audit one laws bytes output again (inr first) (inr second) =
     one_lines one laws bytes (NotBest first.0 first.1) (NotBest second.0 second.1) output again first.2 second.2
 
-one_best_text : ((bytes : List ℕ) → HaveOneAudit bytes) → OneVerdictOfBytes → Laws → (bytes : List ℕ) (status : Status) (output again : List ℕ) → IsAnswered status
-    → IsBestText (Some bytes) status output → IsBestText (Some bytes) status again → output ≡ again
-one_best_text audit one laws bytes status output again answered =
-    by_answer (λ s. IsBestText (Some bytes) s output → IsBestText (Some bytes) s again → output ≡ again)
-    (λ first second. one_lines one laws bytes Best Best output again (left_has IsBestOutput bytes output first) (left_has IsBestOutput bytes again second)) (λ first second. absurd first)
-    (one_fault audit bytes output again) (λ first second. absurd first)
-    (λ first second. one_short audit one laws bytes output again (left_has IsShortOutput bytes output first) (left_has IsShortOutput bytes again second)) status answered
-
 -- bytes of which every round is the best one fall short of nothing
 best_not_short : OneVerdictOfBytes → Laws → (bytes output again : List ℕ) → IsBestOutput bytes output → IsShortOutput bytes again → ⊥
 best_not_short one laws bytes output again first (inl second) =
@@ -119,32 +110,18 @@ short_dossier : (bytes text : List ℕ) → IsShortOutput bytes text → AreDoss
 short_dossier bytes text (inl broken) = (broken.4.0, broken.4.1)
 short_dossier bytes text (inr not_best) = (not_best.2.0, not_best.2.1)
 
-one_best_status : ((bytes : List ℕ) → HaveOneAudit bytes) → OneVerdictOfBytes → Laws → (bytes : List ℕ) (status other : Status) (output again : List ℕ) → IsAnswered status → IsAnswered other
-    → IsBestText (Some bytes) status output → IsBestText (Some bytes) other again → status ≡ other
-one_best_status audit one laws bytes status other output again answered answered' =
-    by_answer (λ s. Same s other)
-    (by_answer (Same Done) (λ first second. refl) (λ first second. absurd second) (λ first second. absurd (no_fault audit bytes again (of_best output first) second)) (λ first second. absurd second)
-    (λ first second. absurd (best_not_short one laws bytes output again (left_has IsBestOutput bytes output first) (left_has IsShortOutput bytes again second))) other answered')
-    (λ first second. absurd first)
-    (by_answer (Same BadInput) (λ first second. absurd (no_fault audit bytes output (of_best again second) first)) (λ first second. absurd second) (λ first second. refl)
-    (λ first second. absurd second) (λ first second. absurd (no_fault audit bytes output (of_short again second) first)) other answered')
-    (λ first second. absurd first)
-    (by_answer (Same BrokenStatus) (λ first second. absurd (best_not_short one laws bytes again output (left_has IsBestOutput bytes again second) (left_has IsShortOutput bytes output first)))
-    (λ first second. absurd second) (λ first second. absurd (no_fault audit bytes again (of_short output first) second)) (λ first second. absurd second) (λ first second. refl) other answered')
-    status answered
-  where
-    Same : Status → Status → Type 0
-    Same s t = IsBestText (Some bytes) s output → IsBestText (Some bytes) t again → s ≡ t
-
-    of_best : (text : List ℕ) → HasLeft IsBestOutput (Some bytes) text → AreDossier bytes
-    of_best text h = let lines = left_has IsBestOutput bytes text h in (lines.0, lines.1)
-
-    of_short : (text : List ℕ) → HasLeft IsShortOutput (Some bytes) text → AreDossier bytes
-    of_short text h = short_dossier bytes text (left_has IsShortOutput bytes text h)
+best_ended : (bytes : List ℕ) (status : Status) (text : List ℕ) → IsAnswered status → Writes (IsBestText (Some bytes)) status text → Ended bytes IsBestOutput IsShortOutput status text
+best_ended bytes status text answered writes =
+    by_answer (λ s. IsBestText (Some bytes) s text → Ended bytes IsBestOutput IsShortOutput s text) (λ t. Well refl (left_has IsBestOutput bytes text t)) (λ t. absurd t)
+    (λ t. Faulty refl (left_has IsDossierFaultLine bytes text t)) (λ t. absurd t) (λ t. Less refl (left_has IsShortOutput bytes text t)) status answered
+    (whole (IsBestText (Some bytes)) status text answered writes)
 
 pub best_audits_are_one : ((bytes : List ℕ) → HaveOneAudit bytes) → OneVerdictOfBytes → Laws → BestAuditsAreOne
 best_audits_are_one audit one laws bytes output again status other answered answered' first second =
-    let text = whole (IsBestText (Some bytes)) status output answered first in
-    let text' = whole (IsBestText (Some bytes)) other again answered' second in
-    let same = one_best_status audit one laws bytes status other output again answered answered' text text' in
-    (same, one_best_text audit one laws bytes status output again answered text (subst (λ (s : Status). IsBestText (Some bytes) s again) (sym same) text'))
+    one_end bytes (audit bytes) IsBestOutput IsShortOutput (record {
+      of_good = λ text lines. (lines.0, lines.1);
+      of_short = short_dossier bytes;
+      one_good = one_lines one laws bytes Best Best;
+      one_short = one_short audit one laws bytes;
+      apart = best_not_short one laws bytes;
+    }) status other output again (best_ended bytes status output answered first) (best_ended bytes other again answered' second)
