@@ -18,7 +18,7 @@ use Rattle.office_moves.specs.State.{State}
 use Rattle.history_laws.specs.Orderly.{IsOrderly}
 use Rattle.season_laws.specs.ReadBack.{IsReadBack}
 use Rattle.dossier_file.specs.Due.{due, lists_due, published_by}
-use Rattle.dossier_file.specs.Papers.{ArePapers, no_papers}
+use Rattle.dossier_file.specs.Papers.{ArePapers, IsThen, no_papers, with_final, with_list, with_round}
 use Rattle.dossier_file.specs.declared.due.Due.{Due}
 use Rattle.dossier_file.specs.declared.due.Due.TheVariants.{Round as RoundDue, List as ListDue, Final as FinalDue}
 use Rattle.dossier_file.specs.declared.papers.Papers.{Papers}
@@ -33,42 +33,33 @@ or_last (Some first) last = Some first
 abbrev joined : Papers → Papers → Papers
 joined papers later = record { rounds = papers.rounds ++ later.rounds; lists = papers.lists ++ later.lists; last = or_last papers.last later.last }
 
+-- a text and those after it, and then more of them
+then_join : {A : Type 0} (join : A → Papers → Papers) (one : List ℕ → A → Type 0) (these those : List ℕ → Papers → Type 0) (text rest : List ℕ) (papers later : Papers)
+    → ((read : A) (p : Papers) → joined (join read p) later ≡ join read (joined p later)) → ((t : List ℕ) (p : Papers) → these t p → those (t ++ rest) (joined p later))
+    → IsThen join one these text papers → IsThen join one those (text ++ rest) (joined papers later)
+then_join join one these those text rest papers later over go first = record {
+  front = first.front;
+  rest = first.rest ++ rest;
+  one = first.one;
+  more = joined first.more later;
+  split = ap (λ (t : List ℕ). t ++ rest) first.split ∙ append_assoc first.front first.rest rest;
+  all = ap (λ (p : Papers). joined p later) first.all ∙ over first.one first.more;
+  begins = first.begins;
+  later = go first.rest first.more first.later;
+}
+
 -- texts that are due, and then more of them
 papers_join : (table : SeatTable) (people : List Person) (rounds : ℕ) (dues more : List Due) (text rest : List ℕ) (papers later : Papers) → ArePapers table people rounds dues text papers
     → ArePapers table people rounds more rest later → ArePapers table people rounds (dues ++ more) (text ++ rest) (joined papers later)
 papers_join table people rounds [] more text rest papers later first second =
     subst (λ (t : List ℕ). ArePapers table people rounds more (t ++ rest) (joined papers later)) (sym first.0)
     (subst (λ (p : Papers). ArePapers table people rounds more rest (joined p later)) (sym first.1) second)
-papers_join table people rounds (RoundDue number ∷ dues) more text rest papers later first second = record {
-  front = first.front;
-  rest = first.rest ++ rest;
-  one = first.one;
-  more = joined first.more later;
-  split = ap (λ (t : List ℕ). t ++ rest) first.split ∙ append_assoc first.front first.rest rest;
-  all = ap (λ (p : Papers). joined p later) first.all;
-  begins = first.begins;
-  later = papers_join table people rounds dues more first.rest rest first.more later first.later second;
-}
-papers_join table people rounds (ListDue number prog ∷ dues) more text rest papers later first second = record {
-  front = first.front;
-  rest = first.rest ++ rest;
-  one = first.one;
-  more = joined first.more later;
-  split = ap (λ (t : List ℕ). t ++ rest) first.split ∙ append_assoc first.front first.rest rest;
-  all = ap (λ (p : Papers). joined p later) first.all;
-  begins = first.begins;
-  later = papers_join table people rounds dues more first.rest rest first.more later first.later second;
-}
-papers_join table people rounds (FinalDue ∷ dues) more text rest papers later first second = record {
-  front = first.front;
-  rest = first.rest ++ rest;
-  one = first.one;
-  more = joined first.more later;
-  split = ap (λ (t : List ℕ). t ++ rest) first.split ∙ append_assoc first.front first.rest rest;
-  all = ap (λ (p : Papers). joined p later) first.all;
-  begins = first.begins;
-  later = papers_join table people rounds dues more first.rest rest first.more later first.later second;
-}
+papers_join table people rounds (RoundDue number ∷ dues) more text rest papers later first second =
+    then_join with_round _ _ _ text rest papers later (λ read p. refl) (λ t p h. papers_join table people rounds dues more t rest p later h second) first
+papers_join table people rounds (ListDue number prog ∷ dues) more text rest papers later first second =
+    then_join with_list _ _ _ text rest papers later (λ read p. refl) (λ t p h. papers_join table people rounds dues more t rest p later h second) first
+papers_join table people rounds (FinalDue ∷ dues) more text rest papers later first second =
+    then_join with_final _ _ _ text rest papers later (λ read p. refl) (λ t p h. papers_join table people rounds dues more t rest p later h second) first
 
 -- ---- what is due, from the front
 
