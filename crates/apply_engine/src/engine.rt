@@ -19,7 +19,7 @@ use std::sync::ledger::{Blank, Ledger};
 /// the season's programmes: the season's own one, or one with raised seats.
 ///
 /// The round is the best allocation on what the seeks leave of the choice lists (candidates propose, and acceptance
-/// is deferred). It has the six lists of each programme from its applicants.
+/// is deferred). It has the lists of each programme from its applicants.
 ///
 /// Steps rise by one for each application. Everybody has applied to each programme of what their seek leaves, down to
 /// that of their seat, or to all of them without a seat. The only error is that memory runs out. It leaves nothing

@@ -42,7 +42,7 @@ pub(crate) fn begin_tallies(alloc: Global, matrix: &Matrix) -> Result<Vec<Tried>
     Ok(tallies)
 }
 
-/// The six lists of each programme, once all have applied.
+/// The lists of each programme, once all have applied.
 pub(crate) fn list_programmes(alloc: Global, applied: &Applied) -> Result<Programmes, OutOfMemory>
     ghost over: { Setting }
     requires { HasRun over applied.now.next.items

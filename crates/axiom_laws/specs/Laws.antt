@@ -30,7 +30,7 @@ abbrev pub OneMeetsTheAxioms : Type 0
 OneMeetsTheAxioms = (version : ℕ) (seats : ProgrammeSeats) (people : List Person) (admissions : Admissions) → AreProgrammeSeats seats → AreApplicants seats.list people
     → MeetsThemAtEachStep version seats (in_merit seats.list people) admissions → ChoosesFrom version seats people admissions
 
--- So the axioms are the rule: admissions are the choice of a programme exactly where they meet the axioms at each of its six steps.
+-- So the axioms are the rule: admissions are the choice of a programme exactly where they meet the axioms at each of its steps.
 abbrev pub AxiomsAreTheRule : Type 0
 AxiomsAreTheRule = (version : ℕ) (seats : ProgrammeSeats) (people : List Person) (admissions : Admissions) → AreProgrammeSeats seats → AreApplicants seats.list people
     → ChoosesFrom version seats people admissions ↔ MeetsThemAtEachStep version seats (in_merit seats.list people) admissions

@@ -95,7 +95,7 @@ module _ (laws : AreLaws) (seats : ProgrammeSeats) (programme : Programme) (pers
   not_on : (kind : StepKind) (shown : StepList) → slice_get programme.steps (step_number kind) ≡ Some shown → is_taken shown.admitted person ≡ false
   not_on kind shown at = each (λ (l : StepList). is_taken l.admitted person ≡ false) shown programme.steps (at_among programme.steps (step_number kind) shown at) (not_listed programme.steps person refused)
 
-  -- each of the six steps is shown
+  -- each of the steps is shown
   shown_of : (kind : StepKind) → (shown : StepList) × (slice_get programme.steps (step_number kind) ≡ Some shown)
   shown_of kind = let found = zip_at (ShowsStep was.version seats applicants admissions) kinds programme.steps (step_number kind) kind was.shows.2 (kind_at kind) in (found.0, found.1)
 

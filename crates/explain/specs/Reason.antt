@@ -1,4 +1,4 @@
--- The reason of one person at one programme, from the programme's six lists.
+-- The reason of one person at one programme, from the programme's lists.
 use Rattle.std.specs.Prelude.{Bool, false, List, [], ◌∷◌, Option, Some, None, ◌||◌, if◌then◌else◌, slice_get}
 use Rattle.std.specs.Option.{option_and_then, option_map}
 use Rattle.office_base.specs.CategorySteps.{category_steps}

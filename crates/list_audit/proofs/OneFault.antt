@@ -190,7 +190,7 @@ module _ (step : Audited) where
   same_cand Unlisted a b h k = absurd h
   same_cand FinalDiffers a b h k = absurd h
 
--- ---- the six steps
+-- ---- the steps
 
 module _ (version : ℕ) (seats : ProgrammeSeats) (people : List Person) (programme : Programme) where
   abbrev at : StepKind → Audited

@@ -1,4 +1,4 @@
--- A step of a programme from its parts, and the six steps.
+-- A step of a programme from its parts, and all steps.
 use Rattle.std.proofs.Common.{◌≡◌, ◌≢◌, ◌≤◌, ◌<◌, ◌+◌, ℕ, suc, false, Option, Some, None, List, get_or, refl, sym, ap, ◌∙◌, subst, inl, inr, arith}
 use Rattle.std.proofs.lemmas.Bool.{cases_lt}
 use Rattle.std.specs.Prelude.{length, min, slice_get}
@@ -97,7 +97,7 @@ among_step step people named shown protections fault e s n p right outside size 
     let listed = subst (λ (l : StepList). IsChoiceFault step.seats.list protections people l fault) s h in
     choice_step step right candidates count people fault e (subst (λ (q : Protections). IsChoiceFault step.seats.list q people (list_at step) fault) p listed)
 
--- ---- the six steps
+-- ---- all steps
 
 -- to a category those are left whom the open step left
 pub left_category : (applicants : List Person) (named : Admissions) (items : List CategoryStep) (index : ℕ) (d : CategoryStep) → items ≡ category_steps → index < length items

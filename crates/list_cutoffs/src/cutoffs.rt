@@ -1,4 +1,4 @@
-// The lines of a programme's six lists, one list after another.
+// The lines of a programme's lists, one list after another.
 ghost use Rattle.std.specs.Prelude.{◌≡◌, ◌++◌, List, IfOk, OnOk, map};
 ghost use Rattle.merit_choice.specs.State.{IsStepKept};
 ghost use Rattle.seat_matrix.specs.Seats.{AreProgrammeSeats};

@@ -57,7 +57,7 @@ pub record IsStepList (people : List Person) (kind : StepKind) (list : StepList)
   pub pairs : list.cert.pairs ≡ pairs_of entries
   pub none : kind ≡ Dereserved → list.cert.pairs ≡ []
 
--- the six steps, in their order
+-- the steps, in their order
 abbrev pub step_kinds : List StepKind
 step_kinds = all_steps
 

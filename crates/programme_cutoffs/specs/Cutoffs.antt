@@ -1,4 +1,4 @@
--- The cutoffs of a programme: those of its six steps, each for the people who may stand for it.
+-- The cutoffs of a programme: those of its steps, each for the people who may stand for it.
 use Rattle.std.specs.Prelude.{◌<◌, ℕ}
 use Rattle.office_base.specs.Person.{number_in}
 use Rattle.office_base.specs.StepNumbers.{step_number}

@@ -39,7 +39,7 @@ NobodyIsPassedOver = (version : ℕ) (seats : ProgrammeSeats) (people : List Per
     → IsBetter seats.list better worse → MayStandFor seats.list step better → HoldsEachTraitOf better worse → IsAdmitted admissions better
 
 -- A step refuses nobody while it has a seat left: it admits fewer people than it fills seats, and an applicant may compete for it.
--- Then the programme admits the applicant, under this step or another. This holds of all six steps.
+-- Then the programme admits the applicant, under this step or another. This holds of all steps.
 abbrev pub EmptySeatsRefuseNobody : Type 0
 EmptySeatsRefuseNobody = (version : ℕ) (seats : ProgrammeSeats) (people : List Person) (admissions : Admissions) (person : Person) (step : StepKind) → AreProgrammeSeats seats
     → AreApplicants seats.list people → ChoosesFrom version seats people admissions → length (admitted_by admissions step) < seats_filled version seats admissions step

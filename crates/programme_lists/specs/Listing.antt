@@ -31,7 +31,7 @@ abbrev pub ShowsStep : ℕ → ProgrammeSeats → List Person → Admissions →
 ShowsStep version seats applicants admissions kind list =
     Shows kind (seats_filled version seats admissions kind) (seats_of seats kind).protections (people_of seats.list applicants admissions kind) (admitted_by admissions kind) list
 
--- The programme shows its six steps in their order.
+-- The programme shows its steps in their order.
 abbrev pub ShowsSteps : ℕ → ProgrammeSeats → List Person → Admissions → Programme → Type 0
 ShowsSteps version seats applicants admissions programme =
     AllZip (ShowsStep version seats applicants admissions) all_steps programme.steps

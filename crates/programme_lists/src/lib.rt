@@ -1,4 +1,4 @@
-// The lists of a programme's six steps, and what they must be: the choice of the programme, by the choice of a step
+// The lists of a programme's steps, and what they must be: the choice of the programme, by the choice of a step
 // alone.
 //
 // The choice of a programme, its reasons, its texts and the rounds depend on it. It computes nothing: it knows who a

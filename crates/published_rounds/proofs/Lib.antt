@@ -18,7 +18,7 @@ pub mod MoreSeats
 pub mod FairThen
 pub mod Vacancies
 pub mod Counted
-pub mod Five
+pub mod OwnSteps
 pub mod GroupRounds
 pub mod RuleRounds
 pub mod Safe

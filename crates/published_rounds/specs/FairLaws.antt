@@ -31,7 +31,7 @@ SeatsAreWithinWhereFair = (version : ℕ) (table : SeatTable) (seekers : List Se
     → AreFairOver version table seekers seats → prog < length table.programmes → AreWithin version table prog seats
 
 -- No seat is wasted. A step of a programme has a seat left, and somebody seeks the programme and may stand for the step.
--- Then they have a seat of that programme, or of one sought more. This holds of all six steps.
+-- Then they have a seat of that programme, or of one sought more. This holds of all steps.
 abbrev pub NoSeatIsWasted : Type 0
 NoSeatIsWasted = (version : ℕ) (table : SeatTable) (seekers : List Seeker) (seats : List (Option Seat)) (prog i : ℕ) (step : StepKind) (s : Seeker) (seat : Option Seat)
     → AreFairOver version table seekers seats → HasSeatLeft version table prog seats step → slice_get seekers i ≡ Some s → slice_get seats i ≡ Some seat

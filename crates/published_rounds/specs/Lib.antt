@@ -9,7 +9,7 @@ pub mod Fair
 pub mod FairLaws
 pub mod People
 pub mod FairThen
-pub mod Five
+pub mod OwnSteps
 pub mod GroupLaws
 pub mod Groups
 pub mod RuleLaws

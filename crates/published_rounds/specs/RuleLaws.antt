@@ -14,7 +14,7 @@ use Rattle.office_moves.specs.Promise.{all_sought_then}
 use Rattle.office_moves.specs.State.{State, seat_of}
 use Rattle.office_moves.specs.declared.moves.Entry.{Entry}
 use Rattle.published_rounds.specs.Published.{IsPublished, market_then, matrix_then, wanted_then}
-use Rattle.published_rounds.specs.Five.{rule_of_five}
+use Rattle.published_rounds.specs.OwnSteps.{rule_of_own_steps}
 use Rattle.published_rounds.specs.Procedures.{IsAlwaysBest, IsAlwaysFair, IsSafe, Procedure}
 
 -- A rule of rounds over a matrix is fair, and nobody gains under it by another list, if and only if it gives in each market the best fair seats: those of the office
@@ -49,7 +49,7 @@ VersionTwoWouldHurtNobody facts = (entries : List Entry) (state : State) (window
 -- without the de-reserved step.
 abbrev pub DereservationHurtsNobody : Type 0
 DereservationHurtsNobody = (version : ℕ) (table : SeatTable) (seekers : List Seeker) (seats others : List (Option Seat)) (i : ℕ) (s : Seeker) (seat other : Option Seat) → AreSeats table
-    → IsMarket (MayApplyIn table) (length table.programmes) seekers → IsFair (rule_of_five table) (length table.programmes) seekers seats
+    → IsMarket (MayApplyIn table) (length table.programmes) seekers → IsFair (rule_of_own_steps table) (length table.programmes) seekers seats
     → IsBest (rule_of version table) (length table.programmes) seekers others → slice_get seekers i ≡ Some s → slice_get seats i ≡ Some seat → slice_get others i ≡ Some other
     → rank_of s.list other ≤ rank_of s.list seat
 
@@ -57,6 +57,6 @@ DereservationHurtsNobody = (version : ℕ) (table : SeatTable) (seekers : List S
 abbrev pub DereservationHurtNobody : SeasonFacts → Type 0
 DereservationHurtNobody facts = (entries : List Entry) (state : State) (window : ℕ) (round : Round) (others : List (Option Seat)) (i : ℕ) (person : Person) (other : Option Seat)
     → IsPublished facts entries state window round
-    → IsFair (rule_of_five (matrix_then facts state window)) (length (matrix_then facts state window).programmes) (market_then facts state window) others
+    → IsFair (rule_of_own_steps (matrix_then facts state window)) (length (matrix_then facts state window).programmes) (market_then facts state window) others
     → slice_get facts.people i ≡ Some person → slice_get others i ≡ Some other
     → rank_of (wanted_then facts state window person.id.0) (seat_of facts (Some round) person.id.0) ≤ rank_of (wanted_then facts state window person.id.0) other

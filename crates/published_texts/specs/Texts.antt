@@ -80,7 +80,7 @@ list_step list = codes "step " ++ step_name list.kind ++ step_lines list.seats l
 abbrev pub list_head : SeatTable → ℕ → ℕ → List ℕ
 list_head table number prog = codes "list " ++ decimal number ++ codes " " ++ code_in table prog ++ codes "\n"
 
--- the text of a programme's list in the round of this number: its six steps
+-- the text of a programme's list in the round of this number: its steps
 abbrev pub list_text : SeatTable → ℕ → ℕ → Programme → List ℕ
 list_text table number prog programme = list_head table number prog ++ flat_map list_step programme.steps ++ codes "end list\n"
 

@@ -11,7 +11,7 @@ use seat_matrix::Matrix;
 use std::alloc::Global;
 use step_lines::{push_step_lines, step_name};
 
-/// The text of the list of a programme in the round of this number: its six steps in their order. The programme is one of the
+/// The text of the list of a programme in the round of this number: its steps in their order. The programme is one of the
 /// matrix, and each slot is the number of a trait.
 pub fn list_text(
     alloc: Global,

@@ -18,7 +18,7 @@ seated [] = 0
 seated (None ∷ seats) = seated seats
 seated (Some seat ∷ seats) = seated seats + 1
 
--- A round over this matrix, on what the seeks leave of the choice lists: the best allocation, with the six lists of each programme from its applicants.
+-- A round over this matrix, on what the seeks leave of the choice lists: the best allocation, with the lists of each programme from its applicants.
 pub record IsRound (version : ℕ) (table : SeatTable) (people : List Person) (lists : List (List ProgId)) (n : ℕ) (seeks : List Seek) (round : Round) : Type 0 where
   pub number : round.number ≡ n
   pub sought : round.seeks ≡ seeks

@@ -12,7 +12,7 @@ pub type Seeks = Listed<Seek>;
 /// The seat of each person of the register, in its order.
 pub type Seats = Listed<Option<Seat>>;
 
-/// The six lists of each programme, in the order of the matrix.
+/// The lists of each programme, one a step, in the order of the matrix.
 pub type Programmes = Listed<Programme>;
 
 /// A round. Its number counts from 1.

@@ -13,11 +13,11 @@ use Rattle.seat_matrix.specs.declared.seats.ProgrammeSeats.{ProgrammeSeats}
 use Rattle.programme_lists.specs.Programme.{Admissions, admitted_by, step_of}
 
 -- The admissions are the choices of the steps that have seats of their own, as in the choice of a programme, and nobody else is admitted.
-pub record IsChoiceOfFive (seats : ProgrammeSeats) (applicants : List Person) (admissions : Admissions) : Type 0 where
+pub record IsChoiceOfOwnSteps (seats : ProgrammeSeats) (applicants : List Person) (admissions : Admissions) : Type 0 where
   pub own : (kind : StepKind) → is_dereserved kind ≡ false → IsStepChoice (step_of seats applicants admissions kind) (admissions kind)
   pub nobody_else : admissions Dereserved ≡ []
 
 -- a programme of the matrix admits as these choices say
-abbrev pub rule_of_five : SeatTable → Rule
-rule_of_five table p people person kind =
-    (admissions : Admissions) × IsChoiceOfFive (seats_in table p) (in_merit (seats_in table p).list people) admissions × IsAmong person (admitted_by admissions kind)
+abbrev pub rule_of_own_steps : SeatTable → Rule
+rule_of_own_steps table p people person kind =
+    (admissions : Admissions) × IsChoiceOfOwnSteps (seats_in table p) (in_merit (seats_in table p).list people) admissions × IsAmong person (admitted_by admissions kind)

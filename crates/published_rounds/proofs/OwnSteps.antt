@@ -19,10 +19,10 @@ use Rattle.office_moves.specs.Facts.{SeasonFacts, lists_in_order}
 use Rattle.office_moves.specs.Promise.{all_sought_then}
 use Rattle.published_rounds.specs.Published.{market_then, matrix_then, wanted_then}
 use Rattle.published_rounds.proofs.Places.{AreOrderly, course_of, in_round, made_then, may_enter}
-use Rattle.published_rounds.specs.Five.{IsChoiceOfFive, rule_of_five}
+use Rattle.published_rounds.specs.OwnSteps.{IsChoiceOfOwnSteps, rule_of_own_steps}
 use Rattle.published_rounds.specs.RuleLaws.{DereservationHurtNobody, DereservationHurtsNobody}
 
-module _ (version : ℕ) (seats : ProgrammeSeats) (applicants : List Person) (admissions : Admissions) (choice : IsChoiceOfFive seats applicants admissions) where
+module _ (version : ℕ) (seats : ProgrammeSeats) (applicants : List Person) (admissions : Admissions) (choice : IsChoiceOfOwnSteps seats applicants admissions) where
   -- the same steps, and the last one behind them
   abbrev with_last : StepKind → List Person
   with_last Dereserved = take (unfilled version seats admissions) (people_of seats.list applicants admissions Dereserved)
@@ -39,7 +39,7 @@ module _ (version : ℕ) (seats : ProgrammeSeats) (applicants : List Person) (ad
   still_admitted x Dereserved here = absurd (subst (λ l. IsAmong x l) choice.nobody_else here)
   still_admitted x kind here = here
 
-admits_still : (version : ℕ) (table : SeatTable) → Grows (rule_of_five table) (rule_of version table) (MayApplyIn table)
+admits_still : (version : ℕ) (table : SeatTable) → Grows (rule_of_own_steps table) (rule_of version table) (MayApplyIn table)
 admits_still version table p people x may admits =
     let a = admits.1 in
     let seats = seats_in table p in
@@ -48,7 +48,7 @@ admits_still version table p people x may admits =
 
 pub dereservation_hurts_nobody : ProgrammesChooseWell → DereservationHurtsNobody
 dereservation_hurts_nobody well version table seekers seats others i s seat other ok here fair best there has has' =
-    more_is_no_worse (rule_of_five table) (rule_of version table) (MayApplyIn table) (well version table ok) (admits_still version table) (length table.programmes) i
+    more_is_no_worse (rule_of_own_steps table) (rule_of version table) (MayApplyIn table) (well version table ok) (admits_still version table) (length table.programmes) i
     seekers seats others s seat other here fair best there has has'
 
 pub dereservation_hurt_nobody : AreOrderly → DereservationHurtsNobody → (facts : SeasonFacts) → DereservationHurtNobody facts
