@@ -1,5 +1,5 @@
 // A reader of rows.
-ghost use Rattle.std.specs.Prelude.{◌≡◌, ◌≤◌, ◌∷◌, [], MatchBool, MatchOption, IfOk, IfSome, IfNone, OnErr, length, take, map, IsTrue, ◌↔◌};
+ghost use Rattle.std.specs.Prelude.{◌≡◌, ◌≤◌, ◌∷◌, [], MatchBool, MatchOption, IfOk, IfSome, IfNone, OnErr, length, take, map};
 ghost use Rattle.csv.specs.Records.{fields_of};
 ghost use Rattle.section_rows.specs.Rows.{rows_of, rows_among, without_empty_end, field, same_fields};
 ghost use Rattle.section_rows.specs.Reading.{IsReading, records_left};
@@ -53,20 +53,10 @@ fn used_fields(raw: &ByteRecord) -> usize
     ensures within { result ≤ length (fields_of raw.now) }
 {
     let mut count = raw.len();
-    while count > 0 && is_empty_at(raw, count - 1) {
+    while count > 0 && field_or_empty(raw, count - 1).is_empty() {
         count -= 1;
     }
     count
-}
-
-/// Whether the field of this number is empty.
-fn is_empty_at(raw: &ByteRecord, at: usize) -> bool
-    ensures { IsTrue result ↔ (field (fields_of raw.now) at ≡ []) }
-{
-    match raw.get(at) {
-        Some(field) => field.is_empty(),
-        None => true,
-    }
 }
 
 /// The rows of a section's body, read one by one: the row at hand, and whether the end was met.
