@@ -3,7 +3,7 @@ ghost use Rattle.std.specs.Prelude.{◌≡◌, ◌<◌, [], List, Ok, Err, Some,
 ghost use Rattle.office_base.specs.declared.person.ProgId.{ProgId};
 ghost use Rattle.section_rows.specs.Rows.{same_fields};
 ghost use Rattle.rank_lists.specs.Register.{row_of};
-ghost use Rattle.choice_lists.specs.Choices.{choice, is_chosen, is_ranked, person_of, programme_of};
+ghost use Rattle.choice_lists.specs.Choices.{choice, is_chosen, person_of, programme_of};
 ghost use Rattle.choice_lists.specs.Builder.{AreGiven};
 
 use crate::choices::Choices;
@@ -183,15 +183,6 @@ fn read_person(register: &Register, text: &[u8]) -> Option<(usize, Person)>
     Some((at, register.people()[at]))
 }
 
-/// The programme whose code a text spells.
-fn read_programme(matrix: &Matrix, text: &[u8]) -> Option<ProgId>
-    ensures number { option_map (λ prog. prog.0) result ≡ programme_of matrix.now text.now }
-    ensures known { IfSome result (λ prog. prog.0 < length matrix.now.programmes) }
-{
-    let code = Code::read(text)?;
-    matrix.find(code)
-}
-
 /// The place of a text's guess: texts of one place share it.
 fn guess_place(text: &[u8]) -> usize
     ensures { result < 65536 }
@@ -215,17 +206,9 @@ fn find_programme(matrix: &Matrix, guesses: &mut [u16], text: &[u8]) -> Option<P
     if matrix.has_code(guess, text) {
         return Some(guess);
     }
-    let prog = read_programme(matrix, text)?;
+    let prog = matrix.find(Code::read(text)?)?;
     guesses[place] = prog.0;
     Some(prog)
-}
-
-/// Whether a person has a place in the merit list of a programme.
-fn is_ranked(matrix: &Matrix, person: &Person, prog: ProgId) -> bool
-    requires { prog.0 < length matrix.now.programmes }
-    ensures { result ≡ is_ranked matrix.now person.now prog.0 }
-{
-    person.place(matrix.list(prog)).number().is_some()
 }
 
 /// Returns the programme that a field names, after those that are earlier in the row: these are the ones that the
@@ -249,7 +232,7 @@ fn read_choice(
     };
     if named_last[usize::from(prog.0)] == person.id.0 {
         Err(ChoiceKind::RepeatedProgramme)
-    } else if !is_ranked(matrix, person, prog) {
+    } else if person.place(matrix.list(prog)).number().is_none() {
         Err(ChoiceKind::NotRankedThere)
     } else {
         Ok(prog)

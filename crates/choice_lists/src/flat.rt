@@ -1,6 +1,5 @@
 // Lists one behind another in one vector.
-ghost use Rattle.std.specs.Prelude.{◌≡◌, ◌<◌, ◌≤◌, ◌++◌, ◌∷◌, [], length, Some, slice_get, slice_set, replicate, IfOk, OnOk};
-ghost use Rattle.choice_lists.specs.Flat.{part};
+ghost use Rattle.std.specs.Prelude.{◌≡◌, ◌<◌, ◌++◌, ◌∷◌, [], length, Some, slice_get, slice_set, replicate, IfOk, OnOk};
 
 use office_base::OutOfMemory;
 use std::alloc::Global;
@@ -22,15 +21,6 @@ impl<T> Model for FlatLists<T> {
     ghost view = { λ a. lists_of a.items.items a.ranges.items };
 
     ghost invariant = { λ a. AreWithin a.items.items a.ranges.items };
-}
-
-/// The items from `start` to before `end`.
-fn part<T>(items: &[T], start: usize, end: usize) -> &[T]
-    requires rising { start ≤ end }
-    requires within { end ≤ length items.now }
-    ensures { result.now ≡ part items.now (start, end) }
-{
-    &items[start..end]
 }
 
 impl<T> FlatLists<T> {
@@ -57,7 +47,7 @@ impl<T> FlatLists<T> {
         ensures { slice_get self.now number ≡ Some result.now }
     {
         let (start, end) = self.ranges[number];
-        part(self.items.as_slice(), start, end)
+        &self.items.as_slice()[start..end]
     }
 }
 
