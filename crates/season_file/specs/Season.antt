@@ -55,19 +55,7 @@ rows_of_requests (byte ∷ section) = rows_of (after_line (byte ∷ section))
 abbrev pub request_rows_of : Parts → List Row
 request_rows_of parts = rows_of_requests parts.requests
 
--- a fault of a section is reported unchanged, except when memory runs out
-abbrev pub register_error : TableFault RankKind → SeasonFault
-register_error (BadRow row kind) = Register (BadRow row kind)
-register_error NoTableMemory = OutOfMemory
-
-abbrev pub matrix_error : TableFault MatrixKind → SeasonFault
-matrix_error (BadRow row kind) = Matrix (BadRow row kind)
-matrix_error NoTableMemory = OutOfMemory
-
-abbrev pub choice_error : TableFault ChoiceKind → SeasonFault
-choice_error (BadRow row kind) = Choices (BadRow row kind)
-choice_error NoTableMemory = OutOfMemory
-
+-- a fault of the requests is reported unchanged, except when memory runs out
 abbrev pub script_error : ScriptFault → SeasonFault
 script_error (NoRequest row) = BadRequest row
 script_error NoScriptMemory = OutOfMemory

@@ -1,11 +1,10 @@
 // What the sections of a bundle give.
-ghost use Rattle.std.specs.Prelude.{◌≡◌, ◌≤◌, Ok, is_some, length, take, IfOk, IfErr, IsErrOf};
+ghost use Rattle.std.specs.Prelude.{◌≡◌, ◌≤◌, Ok, length, take, IfOk, IfErr, IsErrOf};
 ghost use Rattle.office_base.specs.Limits.{most_bundle_bytes};
 ghost use Rattle.office_base.specs.Outside.{IsAtEnd, Rose, Took};
-ghost use Rattle.rank_lists.specs.Register.{find_holder};
 ghost use Rattle.request_rows.specs.Requests.{IsScriptFault as AreRowsWithout, script_of};
 ghost use Rattle.season_file.specs.Bundle.{parts_of, season_text};
-ghost use Rattle.season_file.specs.Season.{AreAligned, BundleGives, IsSeasonFault, IsSectionFault, IsText, IsUnread, SectionsGive, choice_error, matrix_error, register_error, rows_of_requests, script_error};
+ghost use Rattle.season_file.specs.Season.{AreAligned, BundleGives, IsSeasonFault, IsSectionFault, IsText, IsUnread, SectionsGive, rows_of_requests, script_error};
 
 use crate::fault::SeasonFault;
 use crate::head::{Head, read_head};
@@ -36,36 +35,6 @@ pub(crate) struct ReadBundle {
     pub(crate) end: usize,
 }
 
-/// The register's fault as the season's.
-fn register_error(fault: RankFault) -> SeasonFault
-    ensures { result ≡ register_error fault }
-{
-    match fault {
-        RankFault::Bad { .. } => SeasonFault::Register(fault),
-        RankFault::OutOfMemory => SeasonFault::OutOfMemory,
-    }
-}
-
-/// The matrix's fault as the season's.
-fn matrix_error(fault: MatrixFault) -> SeasonFault
-    ensures { result ≡ matrix_error fault }
-{
-    match fault {
-        MatrixFault::Bad { .. } => SeasonFault::Matrix(fault),
-        MatrixFault::OutOfMemory => SeasonFault::OutOfMemory,
-    }
-}
-
-/// The choices' fault as the season's.
-fn choice_error(fault: ChoiceFault) -> SeasonFault
-    ensures { result ≡ choice_error fault }
-{
-    match fault {
-        ChoiceFault::Bad { .. } => SeasonFault::Choices(fault),
-        ChoiceFault::OutOfMemory => SeasonFault::OutOfMemory,
-    }
-}
-
 /// The script's fault as the season's.
 pub(crate) fn script_error(fault: ScriptFault) -> SeasonFault
     ensures { result ≡ script_error fault }
@@ -88,11 +57,13 @@ fn read_sections(alloc: Global, cut: Pieces<'_>) -> Result<Content, SeasonFault>
     };
     let register = match Register::read(alloc, cut.register) {
         Ok(register) => register,
-        Err(fault) => return Err(register_error(fault)),
+        Err(RankFault::OutOfMemory) => return Err(SeasonFault::OutOfMemory),
+        Err(fault) => return Err(SeasonFault::Register(fault)),
     };
     let matrix = match Matrix::read(alloc, cut.matrix) {
         Ok(matrix) => matrix,
-        Err(fault) => return Err(matrix_error(fault)),
+        Err(MatrixFault::OutOfMemory) => return Err(SeasonFault::OutOfMemory),
+        Err(fault) => return Err(SeasonFault::Matrix(fault)),
     };
     match Choices::read(alloc, cut.choices, &register, &matrix) {
         Ok(choices) => Ok(Content {
@@ -102,15 +73,9 @@ fn read_sections(alloc: Global, cut: Pieces<'_>) -> Result<Content, SeasonFault>
             matrix,
             choices,
         }),
-        Err(fault) => Err(choice_error(fault)),
+        Err(ChoiceFault::OutOfMemory) => Err(SeasonFault::OutOfMemory),
+        Err(fault) => Err(SeasonFault::Choices(fault)),
     }
-}
-
-/// Whether the clerk's token is a candidate's.
-fn is_candidate(content: &Content) -> bool
-    ensures { result ≡ is_some (find_holder content.now.head.clerk content.now.register.holders) }
-{
-    content.register.who(content.head.clerk.bytes()).is_some()
 }
 
 /// The requests of a section that begins with its section line, or the first row that is none. Without a section there are none.
@@ -141,7 +106,8 @@ fn read_bundle(alloc: Global, bytes: &[u8], requests: bool) -> Result<ReadBundle
         Ok(content) => content,
         Err(fault) => return Err(fault),
     };
-    if is_candidate(&content) {
+    let clerk = content.register.who(content.head.clerk.bytes());
+    if clerk.is_some() {
         return Err(SeasonFault::BadSeason {
             row: content.head.row,
         });

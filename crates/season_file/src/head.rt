@@ -1,7 +1,7 @@
 // The rows of the season's section: how many rounds there are, and who is the clerk.
-ghost use Rattle.std.specs.Prelude.{◌≡◌, ◌+◌, ◌≤◌, [], IfOk, IfSome};
+ghost use Rattle.std.specs.Prelude.{◌≡◌, ◌+◌, ◌≤◌, IfOk, IfSome};
 ghost use Rattle.section_rows.specs.Rows.{rows_of};
-ghost use Rattle.season_file.specs.Head.{head_after, head_of, key_count, with_clerk, with_row, with_rounds};
+ghost use Rattle.season_file.specs.Head.{head_of, key_count, with_clerk, with_row, with_rounds};
 
 use office_base::{OutOfMemory, Token};
 use office_text::read_number;
@@ -58,17 +58,10 @@ pub(crate) fn read_head(alloc: Global, body: &[u8]) -> Result<Result<Head, u32>,
         }
         number += 1;
     }
-    Ok(finish(keys, number))
-}
-
-/// What the keys give at the end of the rows, where both are there.
-fn finish(keys: Keys, number: u32) -> Result<Head, u32>
-    ensures { result ≡ head_after keys number [] }
-{
-    match (keys.rounds, keys.clerk) {
+    Ok(match (keys.rounds, keys.clerk) {
         (Some(rounds), Some((clerk, row))) => Ok(Head { rounds, clerk, row }),
         _ => Err(number),
-    }
+    })
 }
 
 /// The keys with the number of rounds, where it is spelled and no row gave it before.
