@@ -1,5 +1,5 @@
 -- The numbers of programmes by their codes, while a matrix is made.
-use Rattle.std.proofs.Common.{◌≡◌, ◌+◌, ◌<◌, ◌≤◌, ℕ, suc, Bool, true, false, cond, List, [], ◌∷◌, ◌++◌, Option, Some, None, Ok, Err, get_or, length, map, take, refl, sym, ap, subst, ◌∙◌, arith}
+use Rattle.std.proofs.Common.{◌≡◌, ◌+◌, ◌<◌, ◌≤◌, ℕ, suc, Bool, true, false, cond, List, [], ◌∷◌, ◌++◌, Option, Some, None, Result, Ok, Err, get_or, length, map, take, refl, sym, ap, subst, ◌∙◌, arith}
 use Rattle.std.specs.Prelude.{◌||◌, bytes_eq, is_some, nat_le, option_map, position, vec_len}
 use Rattle.std.specs.Bool.{one_answer}
 use Rattle.std.specs.BTreeMap as tree
@@ -24,6 +24,7 @@ use Rattle.seat_matrix.specs.Matrix.{IsKeptMatrix, IsMatrix, codes_in, codes_of,
 use Rattle.seat_matrix.specs.declared.builder.MatrixBuilder.{MatrixBuilder}
 use Rattle.seat_matrix.specs.declared.entry.Entry.{Entry}
 use Rattle.seat_matrix.specs.declared.entry.Home.{Home}
+use Rattle.seat_matrix.specs.declared.fault.MatrixKind.{MatrixKind}
 use Rattle.seat_matrix.specs.declared.fault.MatrixKind.TheVariants.{TooMany}
 use Rattle.seat_matrix.specs.declared.seats.Seatings.{Seatings}
 use Rattle.seat_matrix.proofs.LawsLemmas.{codes-push, known_code, programmes-codes, programmes-found}
@@ -201,6 +202,13 @@ module _ (entries : List Entry) (table : MatrixBuilder) (keeps : Keeps entries t
 
   pub home_nowhere : (code : List ℕ) → tree.get (slice_cmp nat_cmp) table.numbers code ≡ None → home_at code entries ≡ None
   home_nowhere code e = none_from (home_at code entries) (ap (λ (o : Option Home). is_some o) (sym (found_home code)) ∙ sym (known_number code table.programmes.items table.numbers keeps.numbers) ∙ ap (λ (o : Option ProgId). is_some o) e)
+
+  -- what follows from the home that is kept follows from the entries
+  pub settles_known : (code : List ℕ) (number : ProgId) (held : List ℕ × Home) (place count : ℕ) (home : Home) (r : Result Home MatrixKind) → tree.get (slice_cmp nat_cmp) table.numbers code ≡ Some number
+      → held ≡ get_or table.programmes.items place held → place ≡ number.0 → r ≡ settles (Some held.1) count home → r ≡ settles (home_at code entries) count home
+  settles_known code number held place count home r e there same known =
+      let found : home_at code entries ≡ Some held.1 = (home_there code number e).1 held ∙ ap (λ (h : List ℕ × Home). Some h.1) (ap (λ (k : ℕ). get_or table.programmes.items k held) (sym same) ∙ sym there) in
+      known ∙ ap (λ (o : Option Home). settles o count home) (sym found)
 
   -- What a builder makes is the matrix of its entries.
   pub made : (steps : List Seatings) → steps ≡ map (seatings_in entries) (codes_of entries) → IsMatrix entries (record { programmes = table.programmes.items; steps = steps })

@@ -1,8 +1,5 @@
 // A matrix in the making: what each further row is held against.
 ghost use Rattle.std.specs.Prelude.{◌≡◌, ◌≤◌, ◌∷◌, ◌++◌, [], List, OnOk, IfOk, length};
-ghost use Rattle.std.specs.BTreeMap as tree;
-ghost use Rattle.std.specs.Cmp.Lexicographic.{slice_cmp};
-ghost use Rattle.std.specs.Ordering.{nat_cmp};
 ghost use Rattle.office_base.specs.Limits.{most_matrix_seats, most_programmes};
 ghost use Rattle.section_rows.specs.Rows.{Row};
 ghost use Rattle.seat_matrix.specs.Builder.{AreNumbers, with_programme};
@@ -16,7 +13,7 @@ use office_base::limits::{MOST_MATRIX_SEATS, MOST_PROGRAMMES};
 use office_base::{Code, ListId, OWN_COUNT, OWN_STEPS, OutOfMemory, ProgId, StepKind, step_number};
 use office_text::{read_number, read_step};
 use section_rows::{Rows, TableBuilder};
-use std::alloc::{AllocError, Global};
+use std::alloc::Global;
 use std::collections::BTreeMap;
 
 /// A matrix in the making: the programmes so far in the order in which they first appeared, the number of each by its
@@ -68,25 +65,13 @@ impl MatrixBuilder {
         Ok((programme, institute, step))
     }
 
-    /// Returns the home of a programme, if a row gave one.
-    fn home(&self, programme: Code) -> Option<Home>
-        requires { (entries : List Entry) × Keeps entries self.now }
-        ensures { (entries : List Entry) → Keeps entries self.now
-            → result ≡ home_at programme entries }
-    {
-        match self.numbers.get(&programme) {
-            Some(number) => Some(self.programmes[usize::from(number.0)].1),
-            None => None,
-        }
-    }
-
     /// The home of a programme, where it is a new programme or has the same home as before.
     fn settles(&self, programme: Code, home: Home) -> Result<Home, MatrixKind>
         requires { (entries : List Entry) × Keeps entries self.now }
         ensures { (entries : List Entry) → Keeps entries self.now
             → result ≡ settles (home_at programme entries) (length (codes_of entries)) home }
     {
-        match self.home(programme) {
+        match self.numbers.get(&programme) {
             None => {
                 if self.programmes.len() >= MOST_PROGRAMMES {
                     Err(MatrixKind::TooMany)
@@ -94,7 +79,8 @@ impl MatrixBuilder {
                     Ok(home)
                 }
             }
-            Some(known) => {
+            Some(number) => {
+                let known = self.programmes[usize::from(number.0)].1;
                 if known.institute != home.institute {
                     Err(MatrixKind::TwoInstitutes)
                 } else if known.list != home.list {
@@ -201,7 +187,7 @@ impl MatrixBuilder {
             → Keeps entries self → IsMatrix entries matrix) }
     {
         let steps = self.all_seatings(alloc)?;
-        let numbers = in_order(alloc, self.numbers)?;
+        let numbers = self.numbers.into_iter().collect(alloc)?;
         Ok(Matrix {
             programmes: self.programmes,
             numbers,
@@ -281,15 +267,4 @@ fn settle(
         programmes.push((code, home))?;
     }
     Ok(())
-}
-
-/// Returns the numbers of the programmes in the order of their codes.
-fn in_order(
-    alloc: Global,
-    numbers: BTreeMap<Code, ProgId>,
-) -> Result<Vec<(Code, ProgId)>, AllocError>
-    ensures { IfOk result (λ pairs. (pairs.items ≡ numbers.entries)
-        × tree.IsOrdered (slice_cmp nat_cmp) numbers) }
-{
-    numbers.into_iter().collect(alloc)
 }

@@ -94,7 +94,7 @@ impl Matrix {
         ensures { option_map (λ held. held.1.institute) (slice_get self.now.programmes prog.0)
             ≡ Some result }
     {
-        self.home(prog).institute
+        self.programmes[usize::from(prog.0)].1.institute
     }
 
     /// The merit list that a programme uses.
@@ -104,7 +104,7 @@ impl Matrix {
             ≡ Some result }
         ensures number { IsList result }
     {
-        self.home(prog).list
+        self.programmes[usize::from(prog.0)].1.list
     }
 
     /// The seats of a programme in a step: 0 where no row was given, and for seats that a category left unfilled.
@@ -177,16 +177,6 @@ impl Matrix {
             numbers: Vec::from_slice(alloc, self.numbers.as_slice())?,
             steps: Vec::from_slice(alloc, self.steps.as_slice())?,
         })
-    }
-
-    /// Returns the institute of a programme, and its list.
-    fn home(&self, prog: ProgId) -> Home
-        requires { prog.0 < length self.now.programmes }
-        ensures home { option_map (λ held. held.1) (slice_get self.now.programmes prog.0)
-            ≡ Some result }
-        ensures list { IsList result.list }
-    {
-        self.programmes[usize::from(prog.0)].1
     }
 
     /// What the matrix has for a programme in a step.
