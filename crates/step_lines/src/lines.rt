@@ -3,7 +3,7 @@ ghost use Rattle.std.specs.Prelude.{◌≡◌, ◌<◌, ◌++◌, OnOk, OnErr, l
 ghost use Rattle.std.specs.Fmt.{decimal};
 ghost use Rattle.std.specs.List.{AllByRecursion};
 ghost use Rattle.office_base.specs.Certificate.{slot_of};
-ghost use Rattle.step_lines.specs.Lines.{admitted_line, count_lines, slot_letter, step_lines};
+ghost use Rattle.step_lines.specs.Lines.{count_lines, slot_letter, step_lines};
 
 use itoa::Buffer;
 use office_base::{CandId, OutOfMemory, Pair, Person, Text};
@@ -34,7 +34,8 @@ pub fn push_step_lines(
 {
     push_counts(out, seats, candidates, admitted.len(), pairs.len())?;
     for person in admitted {
-        push_admitted(out, person, pairs)?;
+        push_number(out, person.id.0)?;
+        out.extend_from_slice(&[b' ', slot_letter(pairs, person.id), b'\n'])?;
     }
     Ok(())
 }
@@ -58,15 +59,6 @@ fn push_counts(
     out.extend_from_slice(b"\nhonoured ")?;
     push_count(out, honoured)?;
     out.extend_from_slice(b"\n")
-}
-
-/// Puts the line of an admitted person.
-fn push_admitted(out: &mut Text, person: &Person, pairs: &[Pair]) -> Result<(), OutOfMemory>
-    requires { AllByRecursion (λ pair. pair.slot < 6) pairs.now }
-    ensures { OnOk result (out.new ≡ out.old ++ admitted_line pairs.now person.now) }
-{
-    push_number(out, person.id.0)?;
-    out.extend_from_slice(&[b' ', slot_letter(pairs, person.id), b'\n'])
 }
 
 /// Returns the letter of the slot of a candidate, or a dash if the candidate is in no pair.
