@@ -5,7 +5,7 @@ ghost use Rattle.office_base.specs.Merit.{is_ahead};
 ghost use Rattle.office_base.specs.Person.{IsList, number_in};
 ghost use Rattle.programme_lists.specs.Programme.{is_taken};
 ghost use Rattle.seat_matrix.specs.Matrix.{list_in};
-ghost use Rattle.explain.specs.Reason.{admitted_in, at_category, category_step, has_worse, reason_of, refusal, why_at};
+ghost use Rattle.explain.specs.Reason.{admitted_in, category_step, has_worse, reason_of, refusal, why_at};
 
 use dereserve::is_common;
 use office_base::{CATEGORY_STEPS, Category, ListId, Person, ProgId, StepKind, step_number};
@@ -38,23 +38,15 @@ fn refusal(list: ListId, programme: &Programme, person: &Person) -> Reason
         } else {
             None
         },
-        at_category: at_category(list, programme, person),
+        at_category: match category_step(person.category) {
+            Some(kind) => why_at(list, programme, person, kind),
+            None => None,
+        },
         at_dereserved: if common {
             why_at(list, programme, person, StepKind::Dereserved)
         } else {
             None
         },
-    }
-}
-
-/// Returns what counted against the person at the step of the person's own category, if it has one.
-fn at_category(list: ListId, programme: &Programme, person: &Person) -> Option<StepWhy>
-    requires { IsList list }
-    ensures { result ≡ at_category list programme.now person.now }
-{
-    match category_step(person.category) {
-        Some(kind) => why_at(list, programme, person, kind),
-        None => None,
     }
 }
 
