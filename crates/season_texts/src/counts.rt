@@ -1,6 +1,6 @@
 // How much a season has.
 ghost use Rattle.std.specs.Prelude.{◌≡◌, IfOk};
-ghost use Rattle.season_texts.specs.Texts.{choice_count, counts_line, line_of_counts};
+ghost use Rattle.season_texts.specs.Texts.{counts_line, line_of_counts};
 
 use office_base::{OutOfMemory, Text};
 use office_text::push_number;
@@ -11,11 +11,16 @@ use std::alloc::Global;
 pub fn counts_text(alloc: Global, season: &Season) -> Result<Text, OutOfMemory>
     ensures { IfOk result (λ text. text ≡ counts_line season.now) }
 {
+    let people = season.register.people();
+    let mut choices = 0;
+    for person in people {
+        choices += season.choices.list(person.id).len() as u32;
+    }
     line_of_counts(
         alloc,
-        season.register.people().len() as u32,
+        people.len() as u32,
         u32::from(season.matrix.count()),
-        choice_count(season),
+        choices,
         u32::from(season.rounds),
     )
 }
@@ -41,15 +46,4 @@ fn line_of_counts(
     push_number(&mut out, rounds)?;
     out.extend_from_slice(b"\n")?;
     Ok(out)
-}
-
-/// Returns how many programmes are on the choice lists of all candidates together.
-fn choice_count(season: &Season) -> u32
-    ensures { result ≡ choice_count season.now }
-{
-    let mut count = 0;
-    for person in season.register.people() {
-        count += season.choices.list(person.id).len() as u32;
-    }
-    count
 }
