@@ -1,5 +1,5 @@
 // The people whom the seats hold, in merit order, each with a mark: whether the protections need the person.
-ghost use Rattle.std.specs.Prelude.{◌≡◌, ◌≤◌, ◌<◌, ◌↔◌, true, IsTrue, length, vec_len, vec_capacity, MatchOption};
+ghost use Rattle.std.specs.Prelude.{◌≡◌, ◌≤◌, ◌<◌, length, vec_len, vec_capacity, MatchOption};
 ghost use Rattle.std.specs.List.{insert};
 ghost use Rattle.office_base.specs.Person.{IsList};
 ghost use Rattle.office_base.specs.StepChoice.{AreRanked};
@@ -93,13 +93,6 @@ fn last_free(marks: &[bool]) -> Option<usize>
     None
 }
 
-/// Whether the mark is set, and the person holds no trait outside the set.
-fn is_needed_within(person: &Person, mark: bool, set: TraitSet) -> bool
-    ensures { IsTrue result ↔ (mark ≡ true) × (is_within person.now.traits set ≡ true) }
-{
-    mark && is_within(person.traits, set)
-}
-
 /// The last place, from this one on, whose mark is set and whose person holds no trait outside the set.
 pub(crate) fn last_within(
     people: &[Person],
@@ -114,7 +107,7 @@ pub(crate) fn last_within(
     let mut at = people.len();
     while at > from {
         at -= 1;
-        if is_needed_within(&people[at], marks[at], set) {
+        if marks[at] && is_within(people[at].traits, set) {
             return Some(at);
         }
     }

@@ -3,19 +3,10 @@ ghost use Rattle.std.specs.Prelude.{◌≡◌, IfOk, length, vec_len};
 ghost use Rattle.office_base.specs.Merit.{CanBeRanked, in_merit};
 ghost use Rattle.office_base.specs.Person.{IsList};
 ghost use Rattle.office_base.specs.StepChoice.{AreRanked};
-ghost use Rattle.merit_choice.specs.Order.{merit_in};
 
 use crate::laws::one_merit_order;
 use office_base::{ListId, OutOfMemory, Person};
 use std::alloc::Global;
-
-/// The number of a person's place in the list, 0 where there is none.
-fn merit(person: &Person, list: ListId) -> u32
-    requires { IsList list }
-    ensures { result ≡ merit_in list person.now }
-{
-    person.place(list).number().unwrap_or(0)
-}
 
 /// Returns the people in merit order, the best first, in whatever order they come. Fails only when memory runs out.
 pub fn in_merit_order(
@@ -31,6 +22,6 @@ pub fn in_merit_order(
 {
     one_merit_order();
     let mut ranked = Vec::from_slice(alloc, people)?;
-    ranked.sort_by_key(|person| merit(person, list))?;
+    ranked.sort_by_key(|person| person.place(list).number().unwrap_or(0))?;
     Ok(ranked)
 }
