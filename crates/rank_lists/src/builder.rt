@@ -1,12 +1,12 @@
 // A register in the making: what each further row is held against.
-ghost use Rattle.std.specs.Prelude.{◌≡◌, ◌<◌, ◌∷◌, ◌++◌, [], List, Ok, OnOk, OnErr, IfOk, ◌||◌, ℕ, map};
+ghost use Rattle.std.specs.Prelude.{◌≡◌, ◌<◌, ◌∷◌, ◌++◌, [], List, Ok, OnOk, OnErr, IfOk, ◌||◌, ℕ};
 ghost use Rattle.office_base.specs.Person.{number_of};
 ghost use Rattle.section_rows.specs.Rows.{Row, field};
 ghost use Rattle.std.specs.BTreeMap as tree;
 ghost use Rattle.std.specs.BTreeSet as sorted;
 ghost use Rattle.std.specs.Ordering.{nat_cmp};
 ghost use Rattle.rank_lists.specs.declared.entry.Entry.{Entry};
-ghost use Rattle.rank_lists.specs.Register.{places_of, is_relaxed, any_relaxed, is_general, is_number, is_taken, repeats};
+ghost use Rattle.rank_lists.specs.Register.{places_of, is_relaxed, any_relaxed, is_number, is_taken, repeats};
 
 use crate::entry::Entry;
 use crate::fault::RankKind;
@@ -110,7 +110,7 @@ impl RegisterBuilder {
         if self.any_repeats(&places) {
             return Err(RankKind::RepeatedPlace);
         }
-        if is_general(category) && any_relaxed(&places) {
+        if matches!(category, Category::Gen) && any_relaxed(&places) {
             return Err(RankKind::RelaxedGeneral);
         }
         let token = self.new_token(row.field(3))?;
@@ -153,7 +153,7 @@ impl RegisterBuilder {
         } = self;
         let people = in_order(alloc, &people)?;
         Ok(Register {
-            ids: ids_of(alloc, &people)?,
+            ids: people.iter().map(|person| person.id.0).collect(alloc)?,
             people,
             holders: holders.into_iter().collect(alloc)?,
         })
@@ -218,13 +218,6 @@ fn in_order(alloc: Global, people: &BTreeMap<u32, Person>) -> Result<Vec<Person>
     people.values().copied().collect(alloc)
 }
 
-/// The ids of the people, in their order.
-fn ids_of(alloc: Global, people: &[Person]) -> Result<Vec<u32>, AllocError>
-    ensures { IfOk result (λ ids. ids.items ≡ map (λ person. person.id.0) people.now) }
-{
-    people.iter().map(|person| person.id.0).collect(alloc)
-}
-
 /// Whether the number of a place is among those taken in its list.
 fn repeats(taken: &BTreeSet<u32>, place: Place) -> bool
     ensures { (list : ℕ) (entries : List Entry) → ((n : ℕ) → sorted.contains nat_cmp taken.now n
@@ -245,13 +238,6 @@ fn take(taken: &mut BTreeSet<u32>, place: Place) -> Result<(), OutOfMemory>
         taken.insert(number)?;
     }
     Ok(())
-}
-
-/// Whether the category is the general one.
-fn is_general(category: Category) -> bool
-    ensures { result ≡ is_general category }
-{
-    matches!(category, Category::Gen)
 }
 
 /// The four places of a row.
