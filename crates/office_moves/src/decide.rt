@@ -1,7 +1,7 @@
 // What a request comes to, from what it is judged by.
 ghost use Rattle.std.specs.Prelude.{◌≡◌, ◌≤◌};
 ghost use Rattle.office_base.specs.Limits.{most_raised_seats};
-ghost use Rattle.office_moves.specs.Judge.{choice_of, is_gone, judge_answer, judge_cut, judge_list, judge_new_answer, judge_new_seats, judge_next_answer, judge_own, judge_raise, judge_round, judge_why, may_ask, not_open};
+ghost use Rattle.office_moves.specs.Judge.{choice_of, judge_answer, judge_cut, judge_list, judge_new_answer, judge_new_seats, judge_next_answer, judge_own, judge_raise, judge_round, judge_why, may_ask, not_open};
 
 use crate::refusal::Refusal;
 use kept_rows::{AnswerRow, RaiseRow};
@@ -128,7 +128,7 @@ fn judge_next_answer(looks: &AnswerFacts, row: AnswerRow) -> Decision
     ensures { result ≡ judge_next_answer looks.now row }
 {
     let leaves = row.choice == Choice::Withdraw;
-    if is_gone(looks.standing) {
+    if matches!(looks.standing, Standing::Withdrawn | Standing::NoShow) {
         return Decision::Refuse(Refusal::Gone {
             how: looks.standing,
         });
@@ -294,13 +294,6 @@ fn may_ask(by: By, cand: CandId) -> bool
     ensures { result ≡ may_ask by cand }
 {
     by == By::Clerk || by == By::Candidate(cand)
-}
-
-/// Whether a candidate is out.
-fn is_gone(standing: Standing) -> bool
-    ensures { result ≡ is_gone standing }
-{
-    matches!(standing, Standing::Withdrawn | Standing::NoShow)
 }
 
 /// Returns the answer that led to a standing. A waiting candidate has given none, and gets another refusal before.
