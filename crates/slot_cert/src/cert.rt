@@ -2,10 +2,10 @@
 ghost use Rattle.std.specs.Prelude.{◌≡◌, ◌≢◌, ◌<◌, ◌≤◌, ℕ, length, IsTrue, ◌↔◌, MatchOption};
 ghost use Rattle.std.specs.List.{AllByRecursion};
 ghost use Rattle.office_base.specs.Lists.{AnyByRecursion, Pairwise};
-ghost use Rattle.office_base.specs.Person.{IsTraitSet, has_trait};
+ghost use Rattle.office_base.specs.Person.{IsTraitSet};
 ghost use Rattle.office_base.specs.Placement.{Fills, IsPlacement, placed_on, protected};
 
-use office_base::{Pair, Pairs, Person, Protections, TraitSet};
+use office_base::{Pair, Pairs, Person, Protections};
 
 /// Holds the pairs that a certificate shows: who fills which protected position.
 #[derive(Debug, Drop)]
@@ -36,15 +36,11 @@ fn fills(pair: &Pair, person: &Person) -> bool
     requires { IsTraitSet person.now.traits }
     ensures { IsTrue result ↔ Fills pair.now person.now }
 {
-    pair.cand == person.id && holds(person.traits, pair.slot)
-}
-
-/// Whether the trait of this number is in the set. None from 6 on is.
-fn holds(traits: TraitSet, t: u8) -> bool
-    requires { IsTraitSet traits }
-    ensures { result ≡ has_trait traits t }
-{
-    t < 6 && traits.has(t)
+    // there are six traits
+    if pair.slot >= 6 {
+        return false;
+    }
+    pair.cand == person.id && person.traits.has(pair.slot)
 }
 
 /// The place of the first person whom the pair is of and who holds its trait.
