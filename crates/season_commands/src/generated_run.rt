@@ -12,7 +12,7 @@ ghost use Rattle.office_moves.specs.Stands.{Stand};
 ghost use Rattle.office_moves.specs.State.{opening};
 ghost use Rattle.season_generator.specs.Bundle.{generated};
 ghost use Rattle.command_answers.specs.Writes.{WritesFor};
-ghost use Rattle.season_commands.specs.Generated.{EndsGeneratedRun, EndsMade, IsCountedText, IsSummed, StandsForAll, StandsForFirst};
+ghost use Rattle.season_commands.specs.Generated.{EndsGeneratedRun, IsCountedText, IsSummed, StandsForAll, StandsForFirst};
 ghost use Rattle.season_commands.specs.Outside.{BlamesOffice, EndsWith, Outputs, outside_of};
 ghost use Rattle.season_commands.specs.Run.{RunsScript};
 
@@ -47,7 +47,10 @@ pub fn run_generated<K: Sink, P: Keeper>(
         (outside_of K.Sink P.Keeper sink.new result.1) result.0 }
 {
     match read_generated(alloc, n, seed) {
-        Ok((season, script)) => run_made(alloc, n, seed, season, script.as_slice(), sink, keeper),
+        Ok((season, script)) => match Office::begin(alloc, season, keeper) {
+            Ok(office) => count_office(alloc, n, seed, office, script.as_slice(), sink),
+            Err((keeper, fault)) => (tell_unbegun(sink, fault), keeper),
+        },
         Err(OutOfMemory) => (tell_no_memory(sink), keeper),
     }
 }
@@ -63,37 +66,10 @@ fn read_generated(alloc: Global, n: u32, seed: u32) -> Result<(Season, Script), 
     let bundle = generate(alloc, n, seed)?;
     match Season::of_text(alloc, bundle, true) {
         Ok(read) => Ok(read),
-        Err(fault) => Err(no_memory(fault)),
-    }
-}
-
-/// Returns the only fault of a bundle that has none.
-fn no_memory(fault: SeasonFault) -> OutOfMemory
-    requires { fault ≡ SeasonFault.OutOfMemory }
-{
-    let _fault = fault;
-    OutOfMemory
-}
-
-/// Answers the requests in the season, which the keeper holds from now on, and writes the summary.
-fn run_made<K: Sink, P: Keeper>(
-    alloc: Global,
-    n: u32,
-    seed: u32,
-    season: Season,
-    script: &[Request],
-    sink: &mut K,
-    keeper: P,
-) -> (Status, P)
-    requires { IsSeason season.text season }
-    ensures written { Outputs (EndsMade n seed season script.now) (outside_of K.Sink P.Keeper
-        sink.old keeper) (outside_of K.Sink P.Keeper sink.new result.1) result.0 }
-    ensures runs { RunsScript (outside_of K.Sink P.Keeper sink.old keeper)
-        (outside_of K.Sink P.Keeper sink.new result.1) result.0 }
-{
-    match Office::begin(alloc, season, keeper) {
-        Ok(office) => count_office(alloc, n, seed, office, script, sink),
-        Err((keeper, fault)) => (tell_unbegun(sink, fault), keeper),
+        Err(fault) => match fault {
+            SeasonFault::OutOfMemory => Err(OutOfMemory),
+            _ => unreachable!("a generated bundle has no fault"),
+        },
     }
 }
 

@@ -1,12 +1,10 @@
 // A script, answered request after request: no reply is written, and answers are counted.
 ghost use Rattle.std.specs.Prelude.{◌≡◌, ◌<◌, ◌+◌, ◌^◌, cond, IfOk, OnErr, IsErrOf};
 ghost use Rattle.office_base.specs.Outside.{Fails};
-ghost use Rattle.history_laws.specs.Orderly.{IsOrderly};
 ghost use Rattle.office_moves.specs.History.{IsHistory};
 ghost use Rattle.office_moves.specs.Stands.{Stand};
-ghost use Rattle.round_cut.specs.Answering.{KeepsOn};
 ghost use Rattle.season_commands.specs.Steps.{Continues};
-ghost use Rattle.season_commands.specs.Tally.{CountsAll, IsCounted, StopsBefore, is_answer, is_receipt, is_refusal, is_refused_answer};
+ghost use Rattle.season_commands.specs.Tally.{CountsAll, StopsBefore, is_receipt, is_refused_answer};
 
 use crate::script::{check_order, next_reply};
 use keeper_mem::Keeper;
@@ -48,36 +46,12 @@ pub fn count_all<P: Keeper>(
         refused: 0,
     };
     'requests: for request in script {
-        match count_one(alloc, office, request, tally) {
-            Ok(next) => tally = next,
+        match next_reply(alloc, office, request) {
+            Ok(reply) => tally = tally.with(request, &reply),
             Err(fault) => return Err(fault),
         }
     }
     Ok(tally)
-}
-
-/// Answers one request, and counts it if it is an answer.
-fn count_one<P: Keeper>(
-    alloc: Global,
-    office: &mut Office<P>,
-    request: &Request,
-    tally: Tally,
-) -> Result<Tally, OfficeFault>
-    requires history { IsHistory office.old.season office.old.entries office.old.state }
-    requires stands { Stand office.old.season office.old.state (P.seen office.old.keeper).tables }
-    requires noted { tally.noted + 1 < 2 ^ 64 }
-    requires refused { tally.refused + 1 < 2 ^ 64 }
-    ensures counted { IfOk result
-        (IsCounted office.old.season office.old.state request.now office.new.state tally) }
-    ensures history { IsHistory office.new.season office.new.entries office.new.state }
-    ensures orderly { IsOrderly office.new.season office.new.state }
-    ensures stands { Stand office.new.season office.new.state (P.seen office.new.keeper).tables }
-    ensures kept { KeepsOn P.seen office.old office.new result }
-{
-    match next_reply(alloc, office, request) {
-        Ok(reply) => Ok(tally.with(request, &reply)),
-        Err(fault) => Err(fault),
-    }
 }
 
 impl Tally {
@@ -89,39 +63,19 @@ impl Tally {
         ensures refused { result.refused
             ≡ self.refused + cond (is_refused_answer request.now reply.now) 1 0 }
     {
-        if is_receipt(reply) {
-            return Tally {
+        match reply {
+            Reply::Noted { .. } => Tally {
                 noted: self.noted + 1,
                 refused: self.refused,
-            };
+            },
+            Reply::Refused(_) => match request.ask {
+                Ask::Answer { .. } => Tally {
+                    noted: self.noted,
+                    refused: self.refused + 1,
+                },
+                _ => self,
+            },
+            _ => self,
         }
-        if is_answer(request) && is_refusal(reply) {
-            return Tally {
-                noted: self.noted,
-                refused: self.refused + 1,
-            };
-        }
-        self
     }
-}
-
-/// Returns whether a request is an answer.
-fn is_answer(request: &Request) -> bool
-    ensures { result ≡ is_answer request.now.ask }
-{
-    matches!(request.ask, Ask::Answer { .. })
-}
-
-/// Returns whether a reply is the receipt of an answer.
-fn is_receipt(reply: &Reply) -> bool
-    ensures { result ≡ is_receipt reply.now }
-{
-    matches!(reply, Reply::Noted { .. })
-}
-
-/// Returns whether a reply is a refusal.
-fn is_refusal(reply: &Reply) -> bool
-    ensures { result ≡ is_refusal reply.now }
-{
-    matches!(reply, Reply::Refused(_))
 }

@@ -4,7 +4,7 @@ use Rattle.season_generator.specs.Bundle.{generated}
 use Rattle.season_commands.proofs.GeneratedEnds.{only_memory}
 use Rattle.season_commands.proofs.generated_run.read_generated.Goals as goal
 
-pub no_memory-requires : goal.no_memory-requires
-no_memory-requires c =
-    only_memory (generated c.args.n c.args.seed) _ (λ other has. c.generated_has_no_fault.ensures c.args.n c.args.seed other c.requires.high has)
-    (subst (λ (b : List ℕ). IsSeasonFault true b c.in-Err.fault) c.in_ok-bundle.ensures c.in-Err.ensures.fault)
+pub unreachable-requires : goal.unreachable-requires
+unreachable-requires c =
+    c.in_default.not-OutOfMemory (only_memory (generated c.args.n c.args.seed) _ (λ other has. c.generated_has_no_fault.ensures c.args.n c.args.seed other c.requires.high has)
+    (subst (λ (b : List ℕ). IsSeasonFault true b c.in-Err.fault) c.in_ok-bundle.ensures c.in-Err.ensures.fault))

@@ -1,7 +1,8 @@
-use Rattle.std.proofs.Common.{arith, subst, sym, ◌∙◌}
+use Rattle.std.proofs.Common.{◌≡◌, Err, ap, arith, subst, sym, ◌∙◌}
 use Rattle.office_base.specs.Outside.{Rose}
+use Rattle.round_cut.specs.declared.fault.OfficeFault.TheVariants.{KeeperFault}
 use Rattle.season_commands.proofs.Running.{IsLeft, next_at}
-use Rattle.season_commands.specs.Tally.{is_receipt, is_refused_answer}
+use Rattle.season_commands.specs.Tally.{IsCounted, is_receipt, is_refused_answer}
 use Rattle.season_commands.proofs.Tallying.{at_most_one, counts, counts_all, starts, stops}
 use Rattle.season_commands.proofs.tally.count_all.Goals as goal
 
@@ -16,22 +17,23 @@ requests-init g c = (
   λ told. told,
 )
 
-pub count_one-requires-clause-history : goal.count_one-requires-clause-history
-count_one-requires-clause-history g c = c.requests.invariant.0.0.history
+pub next_reply-requires-clause-history : goal.next_reply-requires-clause-history
+next_reply-requires-clause-history g c = c.requests.invariant.0.0.history
 
-pub count_one-requires-clause-stands : goal.count_one-requires-clause-stands
-count_one-requires-clause-stands g c = c.requests.invariant.0.0.stands
+pub next_reply-requires-clause-stands : goal.next_reply-requires-clause-stands
+next_reply-requires-clause-stands g c = c.requests.invariant.0.0.stands
 
 pub requests-preserved : goal.requests-preserved
 requests-preserved g c =
     let next = next_at c.args.script.now c.requests.request-index c.request-item.result c.requests-test.true c.request-item.is in
-    let left : IsLeft c.requests.office.season c.count_one.new.office.season c.count_one.new.office.entries c.count_one.new.office.state (g.P.Keeper.seen c.count_one.new.office.keeper).tables = record {
+    let left : IsLeft c.requests.office.season c.next_reply.new.office.season c.next_reply.new.office.entries c.next_reply.new.office.state (g.P.Keeper.seen c.next_reply.new.office.keeper).tables = record {
       same = c.in-Ok.ensures.kept.season;
       history = c.in-Ok.ensures.history;
       word = c.in-Ok.ensures.orderly.word;
       stands = c.in-Ok.ensures.stands;
     } in
-    let counted = c.in-Ok.ensures.counted in (
+    let counted : IsCounted c.requests.office.season c.requests.office.state c.request-item.result c.next_reply.new.office.state c.requests.tally c.with-tally.result =
+    record { reply = c.in-Ok.reply; moves = c.in-Ok.ensures.moves; noted = c.with-tally.ensures.noted; refused = c.with-tally.ensures.refused } in (
       (
         counts _ _ _ _ _ _ _ _ _ _ _ _ _ _ _ _ _ _ c.requests.invariant.0.0 next counted left (c.in-Ok.ensures.kept.blamed.steady (λ e. cc)),
         at_most_one (is_receipt counted.reply) _ _ _ counted.noted c.requests.invariant.0.1,
@@ -65,7 +67,7 @@ returns-clause-blamed g c =
 
 pub returns-in-Err-clause-stopped : goal.returns-in-Err-clause-stopped
 returns-in-Err-clause-stopped g c =
-    let left : IsLeft c.requests.office.season c.count_one.new.office.season c.count_one.new.office.entries c.count_one.new.office.state (g.P.Keeper.seen c.count_one.new.office.keeper).tables = record {
+    let left : IsLeft c.requests.office.season c.next_reply.new.office.season c.next_reply.new.office.entries c.next_reply.new.office.state (g.P.Keeper.seen c.next_reply.new.office.keeper).tables = record {
       same = c.in-Err.ensures.kept.season;
       history = c.in-Err.ensures.history;
       word = c.in-Err.ensures.orderly.word;
@@ -76,7 +78,7 @@ returns-in-Err-clause-stopped g c =
 pub returns-in-Err-clause-continues : goal.returns-in-Err-clause-continues
 returns-in-Err-clause-continues g c =
     let i = c.requests.invariant in
-    let one = c.count_one.ensures in record {
+    let one = c.next_reply.ensures in record {
       season = one.kept.season ∙ i.0.0.same;
       history = one.history;
       stands = one.stands;
@@ -86,9 +88,9 @@ returns-in-Err-clause-continues g c =
 pub returns-in-Err-clause-blamed : goal.returns-in-Err-clause-blamed
 returns-in-Err-clause-blamed g c =
     let same = c.requests.invariant.0.0.keeper in
-    let one = c.count_one.ensures.kept.blamed in
+    let one = c.next_reply.ensures.kept.blamed in
     let more = one.count in record {
-      cause = λ e. subst (λ n. Rose n (g.P.Keeper.seen c.count_one.new.office.keeper).faults) same (one.cause (c.in-Err.is ∙ e));
+      cause = λ e. let failed : c.in-Err.fault ≡ KeeperFault = cc e in subst (λ n. Rose n (g.P.Keeper.seen c.next_reply.new.office.keeper).faults) same (one.cause (c.in-Err.is ∙ ap Err failed));
       count = omega (arith, same, more);
-      steady = λ no. one.steady (λ e. no (sym c.in-Err.is ∙ e)) ∙ same;
+      steady = λ no. one.steady (λ e. let failed : c.in-Err.fault ≡ KeeperFault = cc (sym c.in-Err.is ∙ e) in no (ap Err failed)) ∙ same;
     }
