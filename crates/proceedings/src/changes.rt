@@ -1,5 +1,5 @@
 // What changes the proceedings.
-ghost use Rattle.std.specs.Prelude.{◌≡◌, ◌≤◌, ◌<◌, ◌+◌, ◌∷◌, ◌++◌, [], ◌⊎◌, IfOk, OnOk, length, replicate, vec_capacity, vec_len};
+ghost use Rattle.std.specs.Prelude.{◌≡◌, ◌≤◌, ◌<◌, ◌+◌, ◌∷◌, ◌++◌, [], ◌⊎◌, IfOk, OnOk, length};
 ghost use Rattle.office_base.specs.declared.asks.Choice.{Choice as AnyChoice};
 ghost use Rattle.office_moves.specs.Decided.{decided};
 ghost use Rattle.office_moves.specs.History.{asked};
@@ -7,7 +7,6 @@ ghost use Rattle.office_moves.specs.Moves.{IsNextRound, final_rows};
 ghost use Rattle.season_facts.specs.Season.{facts_of};
 ghost use Rattle.office_moves.specs.State.{opening, with_finals, with_raise, with_round, with_row};
 ghost use Rattle.answer_table.specs.Turns.{no_turns};
-ghost use Rattle.round_options.specs.declared.standing.Standing.TheVariants.{Waiting};
 ghost use Rattle.proceedings.specs.Changes.{IsAnswerAt, StillAfter};
 
 use crate::book::Proceedings;
@@ -22,7 +21,6 @@ use round_options::Standing;
 use rounds::Round;
 use season_facts::says_what_is_sound;
 use season_file::Season;
-use seat_matrix::Matrix;
 use std::alloc::Global;
 
 /// Returns how many are still in after a choice of one of them.
@@ -34,49 +32,6 @@ fn still_after(still: u32, choice: Choice) -> u32
         Choice::Withdraw => still - 1,
         Choice::Freeze | Choice::Float | Choice::Slide => still,
     }
-}
-
-/// Returns the matrix before any raise, and the standing of each of `count` people before any cut.
-fn opening_arrays(
-    alloc: Global,
-    season: &Season,
-    count: usize,
-) -> Result<(Matrix, Vec<Standing>), OutOfMemory>
-    ensures matrix { IfOk result (λ made. made.0 ≡ season.now.matrix) }
-    ensures left { IfOk result (λ made. made.1.items ≡ replicate count Waiting) }
-{
-    let matrix = season.matrix.copy(alloc)?;
-    let left = vec![in alloc; Standing::Waiting; count]?;
-    Ok((matrix, left))
-}
-
-/// Returns the table of the first window, with room for one after each round.
-fn opening_turns(alloc: Global, rounds: u16, count: usize) -> Result<Vec<AnswerTable>, OutOfMemory>
-    ensures first { IfOk result (λ turns. turns.items ≡ no_turns count ∷ []) }
-    ensures one { IfOk result (λ turns. vec_len turns ≡ 1) }
-    ensures room { IfOk result (λ turns. rounds + 1 ≤ vec_capacity turns) }
-{
-    let mut turns = Vec::with_capacity(alloc, usize::from(rounds) + 1)?;
-    turns.push(AnswerTable::new(alloc, count)?)?;
-    Ok(turns)
-}
-
-/// Returns no rounds and no entries, with room for this many of each.
-fn opening_lists(
-    alloc: Global,
-    rounds: u16,
-    count: usize,
-) -> Result<(Vec<Round>, Vec<Entry>), OutOfMemory>
-    ensures rounds { IfOk result (λ made. made.0.items ≡ []) }
-    ensures no_rounds { IfOk result (λ made. vec_len made.0 ≡ 0) }
-    ensures rounds_room { IfOk result (λ made. rounds ≤ vec_capacity made.0) }
-    ensures entries { IfOk result (λ made. made.1.items ≡ []) }
-    ensures no_entries { IfOk result (λ made. vec_len made.1 ≡ 0) }
-    ensures entries_room { IfOk result (λ made. count ≤ vec_capacity made.1) }
-{
-    let rounds = Vec::with_capacity(alloc, usize::from(rounds))?;
-    let entries = Vec::with_capacity(alloc, count)?;
-    Ok((rounds, entries))
 }
 
 impl Proceedings {
@@ -92,9 +47,13 @@ impl Proceedings {
         says_what_is_sound(&season);
         history_laws::laws::orderly();
         let count = season.register.people().len();
-        let (matrix, left) = opening_arrays(alloc, &season, count)?;
-        let turns = opening_turns(alloc, season.rounds, count)?;
-        let (rounds, entries) = opening_lists(alloc, season.rounds, count)?;
+        let matrix = season.matrix.copy(alloc)?;
+        let left = vec![in alloc; Standing::Waiting; count]?;
+        let first = AnswerTable::new(alloc, count)?;
+        let mut turns = Vec::with_capacity(alloc, usize::from(season.rounds) + 1)?;
+        turns.push(first)?;
+        let rounds = Vec::with_capacity(alloc, usize::from(season.rounds))?;
+        let entries = Vec::with_capacity(alloc, count)?;
         Ok(Proceedings {
             season,
             raised: RaisedSeats::new(alloc, matrix),

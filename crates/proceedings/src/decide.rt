@@ -1,19 +1,18 @@
 // What the office decides about each request, by what it looks up.
-ghost use Rattle.std.specs.Prelude.{◌≡◌, ◌<◌, ◌≤◌, Some, IfSome, length};
-ghost use Rattle.office_base.specs.Limits.{most_raised_seats};
+ghost use Rattle.std.specs.Prelude.{◌≡◌, ◌<◌, Some, IfSome, length};
 ghost use Rattle.rank_lists.specs.Register.{row_of};
 ghost use Rattle.seeks.specs.Seek.{is_listed};
 ghost use Rattle.office_moves.specs.Facts.{find_programme};
 ghost use Rattle.office_moves.specs.State.{view_of};
-ghost use Rattle.office_moves.specs.Decided.{answer_facts, decide_answer, decide_list, decide_own, decide_raise, decide_why, decided, is_chosen_by, is_known, raise_facts};
+ghost use Rattle.office_moves.specs.Decided.{answer_facts, decide_answer, decide_list, decide_own, decide_raise, decide_why, decided};
 ghost use Rattle.proceedings.specs.Changes.{IsDecided};
 
 use crate::book::Proceedings;
 use kept_rows::{AnswerRow, RaiseRow};
 use office_base::{Ask, By, CandId, Code, ProgId, Request, StepKind};
 use office_moves::{
-    AnswerFacts, Decision, Question, RaiseFacts, Refusal, judge_answer, judge_cut, judge_list,
-    judge_own, judge_raise, judge_round, judge_why,
+    AnswerFacts, Decision, Question, Refusal, judge_answer, judge_cut, judge_list, judge_own,
+    judge_raise, judge_round, judge_why,
 };
 
 impl Proceedings {
@@ -72,14 +71,8 @@ impl Proceedings {
     fn decide_own(&self, by: By, cand: CandId, question: Question) -> Decision
         ensures { result ≡ decide_own self.now.season by cand question }
     {
-        judge_own(self.is_known(cand), by, cand, question)
-    }
-
-    /// Returns whether the candidate is in the register.
-    fn is_known(&self, cand: CandId) -> bool
-        ensures { result ≡ is_known self.now.season cand }
-    {
-        self.season.register.position(cand).is_some()
+        let known = self.season.register.position(cand).is_some();
+        judge_own(known, by, cand, question)
     }
 
     /// Returns the programme of a code. None if and only if no programme has it.
@@ -126,26 +119,13 @@ impl Proceedings {
     fn decide_why(&self, by: By, cand: CandId, code: Code) -> Decision
         ensures { result ≡ decide_why self.now.season (view_of self.now.state cand.0) by cand code }
     {
+        let known = self.season.register.position(cand).is_some();
         let prog = self.find(code);
-        let chosen = self.is_chosen_by(cand, prog);
-        judge_why(
-            self.is_known(cand),
-            prog,
-            chosen,
-            self.published(),
-            by,
-            cand,
-        )
-    }
-
-    /// Returns whether the programme is on the candidate's choice list.
-    fn is_chosen_by(&self, cand: CandId, prog: Option<ProgId>) -> bool
-        ensures { result ≡ is_chosen_by self.now.season cand prog }
-    {
-        match prog {
+        let chosen = match prog {
             Some(prog) => is_listed(self.season.choices.list(cand), prog),
             None => false,
-        }
+        };
+        judge_why(known, prog, chosen, self.published(), by, cand)
     }
 
     /// Decides about a raise.
@@ -160,20 +140,11 @@ impl Proceedings {
                     step,
                     seats,
                 };
-                judge_raise(&self.raise_facts(row), by, row)
+                let looks = self.raised.looks(self.window, self.season.rounds, row);
+                judge_raise(&looks, by, row)
             }
             None => Decision::Refuse(Refusal::UnknownProgramme),
         }
-    }
-
-    /// Returns what a raise of a programme of the matrix is judged by.
-    fn raise_facts(&self, row: RaiseRow) -> RaiseFacts
-        requires { row.prog.0 < length self.now.season.matrix.programmes }
-        ensures looks { result ≡ raise_facts self.now.season self.now.state row }
-        ensures few { result.seats ≤ result.total }
-        ensures all { result.total ≤ most_raised_seats }
-    {
-        self.raised.looks(self.window, self.season.rounds, row)
     }
 }
 

@@ -66,28 +66,11 @@ impl Proceedings {
     {
         let mut rows = Listed::new(alloc);
         for window in 0..self.season.rounds + 1 {
-            self.push_answers(&mut rows, at, cand, window)?;
+            if let Some(table) = self.table(window) {
+                push_turns(&mut rows, table, at, cand, window)?;
+            }
         }
         Ok(rows)
-    }
-
-    /// Puts the answers that this candidate gave in a window at the end of these rows, in the order of their turns.
-    fn push_answers(
-        &self,
-        rows: &mut AnswerRows,
-        at: usize,
-        cand: CandId,
-        window: u16,
-    ) -> Result<(), OutOfMemory>
-        requires within { at < length self.now.season.people }
-        requires place { row_of cand.0 self.now.season.people ≡ Some at }
-        ensures { OnOk result (rows.new
-            ≡ rows.old ++ in_window window (rows_of cand.0 self.now.state.answers)) }
-    {
-        match self.table(window) {
-            Some(table) => push_turns(rows, table, at, cand, window),
-            None => Ok(()),
-        }
     }
 
     /// How the last cut left the candidate at this position.

@@ -1,12 +1,10 @@
 // The replies to requests that change nothing.
-ghost use Rattle.std.specs.Prelude.{◌≡◌, ◌<◌, ◌≤◌, Some, true, length, option_map, IfOk, IsOk};
-ghost use Rattle.std.specs.Option.{unwrap_or};
+ghost use Rattle.std.specs.Prelude.{◌≡◌, ◌<◌, ◌≤◌, Some, true, length, IfOk, IsOk};
 ghost use Rattle.office_base.specs.CategorySteps.{all_steps};
-ghost use Rattle.rank_lists.specs.Register.{row_of};
 ghost use Rattle.office_moves.specs.Decided.{decided, is_known};
-ghost use Rattle.office_moves.specs.Moves.{Does, Tells, programme_in, receipt, seat_reply, seated_in, told_seat, why_reply};
+ghost use Rattle.office_moves.specs.Moves.{Does, Tells, programme_in, receipt, seat_reply, told_seat, why_reply};
 ghost use Rattle.office_moves.specs.State.{round_at, view_of};
-ghost use Rattle.office_moves.specs.declared.decide.Question.TheVariants.{Answers as TheAnswers, Choices as TheChoices, Cutoffs as TheCutoffs, List as TheList, Register as TheRegister};
+ghost use Rattle.office_moves.specs.declared.decide.Question.TheVariants.{Answers as TheAnswers, Cutoffs as TheCutoffs};
 ghost use Rattle.proceedings.specs.Told.{copies_nothing, is_repeat};
 
 use crate::book::Proceedings;
@@ -53,11 +51,27 @@ impl Proceedings {
         match question {
             Question::Seat { cand } => Ok(self.seat_reply(cand)),
             Question::Why { cand, prog } => Ok(self.why_reply(cand, prog)),
-            Question::List { round, prog } => self.list(alloc, round, prog),
+            Question::List { round, prog } => {
+                let programme = self.shown(round, prog).copy(alloc)?;
+                Ok(Reply::ListIs {
+                    round,
+                    prog,
+                    programme,
+                })
+            }
             Question::Round { round } => Ok(Reply::RoundIs { round }),
-            Question::Choices { cand } => self.choice_list(alloc, cand),
+            Question::Choices { cand } => {
+                let mut progs = Listed::new(alloc);
+                progs.extend_from_slice(self.season.choices.list(cand))?;
+                Ok(Reply::ChoicesAre { cand, progs })
+            }
             Question::Cutoffs { round, prog } => self.cutoffs(alloc, round, prog),
-            Question::Register { cand } => Ok(self.register_reply(cand)),
+            Question::Register { cand } => {
+                let Some(person) = self.season.register.person(cand) else {
+                    unreachable!("the candidate is known")
+                };
+                Ok(Reply::RegisterIs { person: *person })
+            }
             Question::Answers { cand } => self.answer_list(alloc, cand),
             Question::State => Ok(Reply::StateIs {
                 now: self.now(),
@@ -65,32 +79,6 @@ impl Proceedings {
                 published: self.published(),
             }),
         }
-    }
-
-    /// Copies the lists of a programme in a published round.
-    fn list(&self, alloc: Global, round: u16, prog: ProgId) -> Result<Reply, OutOfMemory>
-        requires some { 0 < round }
-        requires published { round ≤ length self.now.state.rounds }
-        requires programme { prog.0 < length self.now.season.matrix.programmes }
-        ensures { IfOk result (λ reply.
-            Tells self.now.season self.now.state (TheList round prog) reply) }
-    {
-        let programme = self.shown(round, prog).copy(alloc)?;
-        Ok(Reply::ListIs {
-            round,
-            prog,
-            programme,
-        })
-    }
-
-    /// Copies the choice list of a candidate.
-    fn choice_list(&self, alloc: Global, cand: CandId) -> Result<Reply, OutOfMemory>
-        ensures { IfOk result (λ reply.
-            Tells self.now.season self.now.state (TheChoices cand) reply) }
-    {
-        let mut progs = Listed::new(alloc);
-        progs.extend_from_slice(self.season.choices.list(cand))?;
-        Ok(Reply::ChoicesAre { cand, progs })
     }
 
     /// Lists the cutoffs of a programme in a published round.
@@ -120,17 +108,6 @@ impl Proceedings {
         Ok(Reply::AnswersAre { cand, rows })
     }
 
-    /// Returns what the register has of a candidate.
-    fn register_reply(&self, cand: CandId) -> Reply
-        requires { is_known self.now.season cand ≡ true }
-        ensures { Tells self.now.season self.now.state (TheRegister cand) result }
-    {
-        let Some(person) = self.season.register.person(cand) else {
-            unreachable!("the candidate is known")
-        };
-        Reply::RegisterIs { person: *person }
-    }
-
     /// The lists of a programme in a published round.
     fn shown(&self, number: u16, prog: ProgId) -> &Programme
         requires some { 0 < number }
@@ -151,38 +128,19 @@ impl Proceedings {
     fn receipt(&self, window: u16) -> Reply
         ensures { result ≡ receipt self.now.season self.now.state window }
     {
-        if window < self.season().rounds {
+        if window < self.season.rounds {
             let round = window + 1;
-            Reply::Published {
-                round,
-                seated: self.seated_in(round),
-            }
+            let seated = match self.round(round) {
+                Some(made) => made.seated() as u32,
+                None => 0,
+            };
+            Reply::Published { round, seated }
         } else {
-            Reply::Final {
-                admitted: self.admitted(),
-            }
-        }
-    }
-
-    /// How many have a seat in the round of this number; 0 where there is none.
-    fn seated_in(&self, number: u16) -> u32
-        ensures { result ≡ seated_in (round_at self.now.state.rounds number) }
-    {
-        let _ = &self.season;
-        match self.round(number) {
-            Some(round) => round.seated() as u32,
-            None => 0,
-        }
-    }
-
-    /// How many are finally admitted; 0 before the last cut.
-    fn admitted(&self) -> u32
-        ensures { result ≡ unwrap_or (option_map (λ rows. length rows) self.now.state.finals) 0 }
-    {
-        let _ = &self.season;
-        match self.finals() {
-            Some(rows) => rows.len() as u32,
-            None => 0,
+            let admitted = match self.finals() {
+                Some(rows) => rows.len() as u32,
+                None => 0,
+            };
+            Reply::Final { admitted }
         }
     }
 
@@ -194,15 +152,7 @@ impl Proceedings {
         let Some(at) = self.season.register.position(cand) else {
             unreachable!("the candidate is known")
         };
-        self.seat_reply_at(at as usize, cand)
-    }
-
-    /// The same of the candidate at this position.
-    fn seat_reply_at(&self, at: usize, cand: CandId) -> Reply
-        requires within { at < length self.now.season.people }
-        requires place { row_of cand.0 self.now.season.people ≡ Some at }
-        ensures { result ≡ seat_reply self.now.season (view_of self.now.state cand.0) cand }
-    {
+        let at = at as usize;
         let standing = self.standing(at);
         Reply::SeatIs {
             cand,

@@ -1,5 +1,6 @@
-use Rattle.std.proofs.Common.{◌≡◌, ◌∷◌, [], List, None, arith, length, refl, sym, ap, ◌∙◌, subst}
+use Rattle.std.proofs.Common.{◌≡◌, ◌∷◌, ◌++◌, [], ℕ, List, None, arith, rules, length, refl, sym, ap, ◌∙◌, subst}
 use Rattle.std.specs.Prelude.{replicate}
+use Rattle.office_base.specs.declared.asks.Choice.{Choice}
 use Rattle.kept_rows.specs.declared.rows.RaiseRow.{RaiseRow}
 use Rattle.answer_table.specs.Turns.{no_turns}
 use Rattle.round_options.specs.declared.standing.Standing.TheVariants.{Waiting}
@@ -16,25 +17,29 @@ pub invariant_of-result : goal.invariant_of-result
 invariant_of-result c =
     let facts : SeasonFacts = facts_of c.args.season in
     let people : length c.people-count.result.now ≡ length facts.people = ap (λ xs. length xs) c.people-count.ensures.same in
-    let rounds = c.in_ok-rounds.ensures.rounds in
-    let entries = c.in_ok-rounds.ensures.entries in
-    let raises = c.new.ensures.raises in
-    let first = c.in_ok-turns.ensures.first ∙ ap (λ n. no_turns n ∷ []) people in
-    let new : State = record { now = 0; rounds = c.in_ok-rounds.rounds.items; finals = None; answers = answers_of c.in_ok-rounds.entries.items; raises = c.new.result.raises } in
-    let same : new ≡ opening = opening_state c.in_ok-rounds.rounds.items c.in_ok-rounds.entries.items c.new.result.raises rounds entries raises in
-    let history = opening_history facts c.in_ok-rounds.entries.items new entries same in
-    let T : State → Type 0 = λ s. AreTables facts s c.in_ok-turns.turns.items in
+    let rounds = c.in_ok-rounds.ensures in
+    let entries = c.in_ok-entries.ensures in
+    let raises = c.new-2.ensures.raises in
+    let turns = c.push.new.self in
+    let only : List (List Choice) → List (List (List Choice)) = λ table. table ∷ [] in
+    let first : turns.items ≡ no_turns (length facts.people) ∷ [] =
+    c.in_ok-push.ensures.items ∙ (ap (λ tables. tables ++ c.in_ok-first.first ∷ []) c.in_ok-turns.ensures.items ∙ ap only (c.in_ok-first.ensures ∙ ap no_turns people)) in
+    let waiting = c.in_ok-left.ensures.items_if_clones_equal (λ y h. search rules) in
+    let new : State = record { now = 0; rounds = c.in_ok-rounds.rounds.items; finals = None; answers = answers_of c.in_ok-entries.entries.items; raises = c.new-2.result.raises } in
+    let same : new ≡ opening = opening_state c.in_ok-rounds.rounds.items c.in_ok-entries.entries.items c.new-2.result.raises rounds.items entries.items raises in
+    let history = opening_history facts c.in_ok-entries.entries.items new entries.items same in
+    let T : State → Type 0 = λ s. AreTables facts s turns.items in
     record {
       sound = c.says_what_is_sound.ensures;
       history = history;
-      orderly = c.orderly.ensures facts c.in_ok-rounds.entries.items new c.says_what_is_sound.ensures history.reached;
-      raised = c.new.ensures.matrix ∙ c.in_ok-matrix.ensures.matrix ∙ ap (λ (rs : List RaiseRow). raised facts.matrix rs) (sym raises);
-      left = opening_left facts c.in_ok-matrix.left.items (c.in_ok-matrix.ensures.left ∙ ap (λ n. replicate n Waiting) people) ∙ ap (left_along facts) (sym same);
-      turns = subst T (sym same) (opening_tables facts c.in_ok-turns.turns.items (no_turns (length facts.people)) first refl);
+      orderly = c.orderly.ensures facts c.in_ok-entries.entries.items new c.says_what_is_sound.ensures history.reached;
+      raised = c.new-2.ensures.matrix ∙ c.in_ok-matrix.ensures ∙ ap (λ (rs : List RaiseRow). raised facts.matrix rs) (sym raises);
+      left = opening_left facts c.in_ok-left.left.items (waiting ∙ ap (λ (n : ℕ). replicate n Waiting) people) ∙ ap (left_along facts) (sym same);
+      turns = subst T (sym same) (opening_tables facts turns.items (no_turns (length facts.people)) first refl);
       still = people ∙ (opening_still facts ∙ ap (still_of facts) (sym same));
-      tables = omega (arith, c.in_ok-turns.ensures.one, c.in_ok-rounds.ensures.no_rounds);
+      tables = omega (arith, c.in_ok-turns.ensures.len, c.in_ok-push.ensures.len, rounds.len);
       later = λ window id late. opening_later new window id same;
-      withdrawals = omega (arith, c.in_ok-rounds.ensures.no_entries, c.in_ok-rounds.ensures.entries_room);
-      rounds_room = omega (arith, c.in_ok-rounds.ensures.rounds_room);
-      tables_room = omega (arith, c.in_ok-turns.ensures.room);
+      withdrawals = omega (arith, entries.len, entries.capacity);
+      rounds_room = omega (arith, rounds.capacity);
+      tables_room = omega (arith, c.in_ok-turns.ensures.capacity, c.in_ok-push.ensures.capacity);
     }
