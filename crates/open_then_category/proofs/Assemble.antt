@@ -24,7 +24,7 @@ use Rattle.programme_lists.specs.declared.programme.StepList.{StepList}
 use Rattle.programme_lists.proofs.Table.{IsRow, row_facts, rows_apart}
 use Rattle.programme_lists.proofs.Walk.{members_sublist, ranked_without, same_category}
 use Rattle.programme_lists.proofs.Taken.{length-without}
-use Rattle.open_then_category.specs.Stepwise.{AreCategorySteps, AreTaken, AreWithin, IsCategoryStep, IsOpenStep, ShowsLast, admissions_in, empty_after, left_of, shown_by}
+use Rattle.open_then_category.specs.Stepwise.{AreCategorySteps, AreTaken, AreWithin, IsCategoryStep, ShowsLast, admissions_in, empty_after, left_of, shown_by}
 use Rattle.open_then_category.proofs.Handed.{At, categories_at, categories_before, last_at}
 use Rattle.open_then_category.proofs.ProgrammeLaws.{given}
 use Rattle.open_then_category.proofs.Rows.{AreThere, made_choice, steps_of, sum_same, there_next}
@@ -150,6 +150,12 @@ are_taken seats rest lists ranked are = by category_steps lists rest there (zip_
           subst (λ (one : List Person). IsSublist one people) same (is.within row (inl refl)),
           by rows some (without people list.admitted) (subst (λ (one : List Person). AreThere rows (without people one) a) same (there_next row rows people a is)) holds.1,
         )
+
+-- the open step, as it is chosen and shown from the applicants, whom it leaves this rest of
+pub record IsOpenStep (seats : ProgrammeSeats) (applicants rest : List Person) (list : StepList) : Type 0 where
+  pub left : rest ≡ without applicants list.admitted
+  pub choice : IsStepChoice (step_with seats.list (seats_of seats Open) (filter (is_common seats.list) applicants)) list.admitted
+  pub shows : Shows Open (seats_of seats Open).seats (seats_of seats Open).protections (filter (is_common seats.list) applicants) list.admitted list
 
 -- the steps of a programme, chosen and shown one after another, show its choice
 pub assembled : (version : ℕ) (seats : ProgrammeSeats) (applicants rest : List Person) (first last : StepList) (lists : List StepList) → IsOpenStep seats applicants rest first

@@ -1,5 +1,5 @@
 -- The steps after the open one, as they are chosen and shown one after another.
-use Rattle.std.specs.Prelude.{◌≡◌, ◌≤◌, ℕ, List, [], ◌∷◌, Option, Some, None, length, slice_get, take}
+use Rattle.std.specs.Prelude.{◌≤◌, ℕ, List, [], ◌∷◌, Option, Some, None, length, slice_get, take}
 use Rattle.std.specs.List.{AllZip, filter}
 use Rattle.office_base.specs.CategorySteps.{category_steps}
 use Rattle.office_base.specs.Lists.{IsSublist}
@@ -8,12 +8,11 @@ use Rattle.office_base.specs.StepChoice.{IsStepChoice}
 use Rattle.office_base.specs.StepNumbers.{step_number}
 use Rattle.office_base.specs.declared.category_steps.CategoryStep.{CategoryStep}
 use Rattle.office_base.specs.declared.person.Person.{Person}
-use Rattle.office_base.specs.declared.step.StepKind.TheVariants.{Open, Dereserved}
+use Rattle.office_base.specs.declared.step.StepKind.TheVariants.{Dereserved}
 use Rattle.seat_matrix.specs.Seats.{no_protections, seats_of}
 use Rattle.seat_matrix.specs.declared.seats.ProgrammeSeats.{ProgrammeSeats}
-use Rattle.programme_lists.specs.Listing.{Shows, ShowsChoice}
+use Rattle.programme_lists.specs.Listing.{Shows}
 use Rattle.programme_lists.specs.Programme.{Admissions, is_of, without, step_with, unfilled}
-use Rattle.programme_lists.specs.declared.programme.Programme.{Programme}
 use Rattle.programme_lists.specs.declared.programme.StepList.{StepList}
 
 -- a category's step, as it is chosen and shown from the rest
@@ -57,13 +56,3 @@ abbrev pub ShowsLast : ℕ → ProgrammeSeats → List Person → StepList → L
 ShowsLast version seats rest first lists list =
     Shows Dereserved (empty_after version seats (first ∷ lists)) no_protections (filter (is_common seats.list) (left_of rest lists))
     (take (empty_after version seats (first ∷ lists)) (filter (is_common seats.list) (left_of rest lists))) list
-
--- the open step, as it is chosen and shown from the applicants, whom it leaves this rest of
-pub record IsOpenStep (seats : ProgrammeSeats) (applicants rest : List Person) (list : StepList) : Type 0 where
-  pub left : rest ≡ without applicants list.admitted
-  pub choice : IsStepChoice (step_with seats.list (seats_of seats Open) (filter (is_common seats.list) applicants)) list.admitted
-  pub shows : Shows Open (seats_of seats Open).seats (seats_of seats Open).protections (filter (is_common seats.list) applicants) list.admitted list
-
--- the programme, as it is shown from any applicants of whom the open step, chosen and shown, left this rest
-abbrev pub ShowsFromRest : ℕ → ProgrammeSeats → StepList → List Person → Programme → Type 0
-ShowsFromRest version seats first rest programme = (applicants : List Person) → IsOpenStep seats applicants rest first → ShowsChoice version seats applicants programme

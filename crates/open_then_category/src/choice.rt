@@ -2,7 +2,6 @@
 ghost use Rattle.std.specs.Prelude.{◌≡◌, ◌≤◌, ◌<◌, ◌++◌, [], ◌∷◌, IfOk, length, take};
 ghost use Rattle.std.specs.List.{filter};
 ghost use Rattle.office_base.specs.CategorySteps.{category_steps};
-ghost use Rattle.office_base.specs.Limits.{most_step_seats};
 ghost use Rattle.office_base.specs.Person.{IsList, is_common};
 ghost use Rattle.office_base.specs.StepChoice.{AreRanked, IsStep, IsStepChoice};
 ghost use Rattle.office_base.specs.Version.{IsVersion};
@@ -12,7 +11,7 @@ ghost use Rattle.seat_matrix.specs.Seats.{AreProgrammeSeats, no_protections, sea
 ghost use Rattle.programme_lists.specs.Chosen.{AreApplicants, ShowsFrom};
 ghost use Rattle.programme_lists.specs.Listing.{Shows, ShowsChoice};
 ghost use Rattle.programme_lists.specs.Programme.{step_with, without};
-ghost use Rattle.open_then_category.specs.Stepwise.{AreCategorySteps, AreWithin, IsCategoryStep, ShowsFromRest, ShowsLast, empty_after};
+ghost use Rattle.open_then_category.specs.Stepwise.{AreCategorySteps, AreWithin, IsCategoryStep, ShowsLast, empty_after};
 
 use crate::filters::{left_over, members, without};
 use dereserve::{commons, fill, left_unfilled};
@@ -120,14 +119,6 @@ fn dereserved_step(
     })
 }
 
-/// How many persons a step of a programme admitted.
-fn held_by(list: &StepList) -> u16
-    requires { length list.now.admitted ≤ most_step_seats }
-    ensures { result ≡ length list.now.admitted }
-{
-    list.admitted.len() as u16
-}
-
 /// The steps of the categories, in the order of their rows.
 fn category_steps(
     alloc: Global,
@@ -156,9 +147,9 @@ fn empty_seats(version: u8, seats: &ProgrammeSeats, first: &StepList, lists: &[S
     requires lists { AreWithin seats.now lists.now }
     ensures { result ≡ empty_after version seats.now (first.now ∷ lists.now) }
 {
-    let mut held = [held_by(first); OWN_COUNT];
+    let mut held = [first.admitted.len() as u16; OWN_COUNT];
     for i in 0..lists.len() {
-        held[i + 1] = held_by(&lists[i]);
+        held[i + 1] = lists[i].admitted.len() as u16;
     }
     left_unfilled(version, &seats.steps, &held)
 }
@@ -202,26 +193,6 @@ pub(crate) fn programme_of(
     }
 }
 
-/// Returns the choice of a programme from those whom its open step left, who are in merit order.
-fn choose_from_rest(
-    alloc: Global,
-    version: u8,
-    seats: &ProgrammeSeats,
-    first: StepList,
-    rest: &[Person],
-) -> Result<Programme, OutOfMemory>
-    requires version { IsVersion version }
-    requires seats { AreProgrammeSeats seats.now }
-    requires ranked { AreRanked seats.now.list rest.now }
-    requires few { length rest.now ≤ 4294967295 }
-    requires first { length first.admitted ≤ (seats_of seats.now OpenStep).seats }
-    ensures { IfOk result (λ programme. ShowsFromRest version seats.now first rest.now programme) }
-{
-    let lists = category_steps(alloc, seats, rest)?;
-    let last = last_step(alloc, version, seats, rest, &first, lists.as_slice())?;
-    programme_of(first, lists, last)
-}
-
 /// Returns the choice of a programme from applicants in merit order, the best first. Walks through the people of each
 /// step a few times, from the first to the last, in addition to the step's choice and certificate.
 fn choose_in_order(
@@ -238,7 +209,10 @@ fn choose_in_order(
 {
     let first = open_step(alloc, seats, applicants)?;
     let rest = without(alloc, applicants, first.admitted.as_slice())?;
-    choose_from_rest(alloc, version, seats, first, rest.as_slice())
+    let rest = rest.as_slice();
+    let lists = category_steps(alloc, seats, rest)?;
+    let last = last_step(alloc, version, seats, rest, &first, lists.as_slice())?;
+    programme_of(first, lists, last)
 }
 
 /// The choice of a programme from applicants in any order, who are distinct and have distinct places in its list: open

@@ -1,5 +1,5 @@
 // The lists of a programme that keeps the choice from all who came, by how many came.
-ghost use Rattle.std.specs.Prelude.{◌≡◌, ◌≤◌, ◌<◌, [], List, IfOk, false, length, map};
+ghost use Rattle.std.specs.Prelude.{◌≡◌, ◌≤◌, ◌<◌, [], List, IfOk, length, map};
 ghost use Rattle.std.specs.List.{AllByRecursion, filter};
 ghost use Rattle.office_base.specs.CategorySteps.{category_steps, own_steps};
 ghost use Rattle.office_base.specs.Person.{IsList, IsTraitSet, is_common};
@@ -10,7 +10,6 @@ ghost use Rattle.office_base.specs.declared.step.StepKind.TheVariants.{Open as O
 ghost use Rattle.programme_lists.specs.Chosen.{ShowsFrom};
 ghost use Rattle.programme_lists.specs.Listing.{Shows};
 ghost use Rattle.programme_lists.specs.Programme.{is_of};
-ghost use Rattle.seat_matrix.specs.Seats.{is_dereserved};
 ghost use Rattle.open_then_category.specs.State.{IsProgrammeKept, admissions_of};
 ghost use Rattle.open_then_category.specs.Tried.{AreCounted, HaveCome, ShowCategories, ShowsCategory, ShowsDereserved, ShowsOpen, common_taken, counted, with_member, with_one};
 
@@ -209,15 +208,6 @@ fn count_taken(state: &ProgrammeState) -> u32
     taken
 }
 
-/// How many a step with seats of its own admits.
-fn count_held(state: &ProgrammeState, kind: StepKind) -> u16
-    requires kept { IsProgrammeKept state.now }
-    requires own { is_dereserved kind ≡ false }
-    ensures { result ≡ length (admissions_of state.now kind) }
-{
-    state.admitted(kind).len() as u16
-}
-
 /// How many each of the steps with seats of its own admits, by the number of the step.
 fn count_all_held(state: &ProgrammeState) -> [u16; OWN_COUNT]
     requires { IsProgrammeKept state.now }
@@ -225,7 +215,7 @@ fn count_all_held(state: &ProgrammeState) -> [u16; OWN_COUNT]
 {
     let mut held = [0; OWN_COUNT];
     for i in 0..OWN_STEPS.len() {
-        held[i] = count_held(state, OWN_STEPS[i]);
+        held[i] = state.admitted(OWN_STEPS[i]).len() as u16;
     }
     held
 }

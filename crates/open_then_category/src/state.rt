@@ -172,14 +172,6 @@ fn step_state(
     StepState::new(alloc, seats.list, seating.seats, seating.protections)
 }
 
-/// How many a step holds.
-fn held_by(step: &StepState) -> u16
-    requires { step.now.seats ≤ most_step_seats }
-    ensures { result ≡ length step.now.held }
-{
-    step.admitted().len() as u16
-}
-
 /// How many each of the steps with seats of its own holds, by the number of the step.
 fn held_by_steps(
     open_step: &StepState,
@@ -189,9 +181,9 @@ fn held_by_steps(
     requires categories { AllByRecursion (λ step. step.seats ≤ most_step_seats) categories.now }
     ensures { result ≡ length open_step.now.held ∷ map (λ step. length step.held) categories.now }
 {
-    let mut held = [held_by(open_step); OWN_COUNT];
+    let mut held = [open_step.admitted().len() as u16; OWN_COUNT];
     for i in 0..categories.len() {
-        held[i + 1] = held_by(&categories[i]);
+        held[i + 1] = categories[i].admitted().len() as u16;
     }
     held
 }

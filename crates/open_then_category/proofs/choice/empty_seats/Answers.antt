@@ -6,14 +6,14 @@ use Rattle.seat_matrix.specs.Seats.{seats_of}
 use Rattle.open_then_category.proofs.Assemble.{few_in, zip_length}
 use Rattle.open_then_category.proofs.choice.empty_seats.Goals as goal
 
-pub held_by-held-requires : goal.held_by-held-requires
-held_by-held-requires c =
+pub overflow_cast-held : goal.overflow_cast-held
+overflow_cast-held c =
     let held = c.requires.first in
     let few = (c.requires.seats.steps Open).seats in
     omega (arith, held, few)
 
-pub held_by-requires : goal.held_by-requires
-held_by-requires c =
+pub overflow_cast-held-in-loop-i : goal.overflow_cast-held-in-loop-i
+overflow_cast-held-in-loop-i c =
     let seats = c.args.seats.now in
     let many = zip_length (λ row list. length list.admitted ≤ (seats_of seats row.step).seats) category_steps c.args.lists.now c.requires.lists in
     let below = c.loop-i-test.true in
