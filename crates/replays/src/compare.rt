@@ -1,12 +1,12 @@
 // The kept seats of a round against those that were computed.
-ghost use Rattle.std.specs.Prelude.{◌≡◌, ◌<◌, ◌∷◌, [], ℕ, List, Option, Some, IfOk, length, option_map, slice_get};
+ghost use Rattle.std.specs.Prelude.{◌≡◌, ◌∷◌, [], ℕ, List, Option, IfOk, length};
 ghost use Rattle.office_base.specs.declared.asks.Seat.{Seat as AnySeat};
 ghost use Rattle.kept_rows.specs.declared.rows.AllotRow.{AllotRow as AnyRow};
 ghost use Rattle.office_moves.specs.Stands.{first_allot};
 ghost use Rattle.replays.specs.Differences.{AreFound, IsComparison, IsComparisonOf, IsFirstPlace, IsOfNobody, IsOfPeople, IsStranger, seat_along};
 
 use kept_rows::AllotRow;
-use office_base::{CandId, OutOfMemory, Person, Seat};
+use office_base::{CandId, OutOfMemory, Seat};
 use rank_lists::Register;
 use std::alloc::Global;
 
@@ -40,16 +40,6 @@ fn put_seat(found: &mut [Option<Seat>], register: &Register, row: AllotRow, numb
     }
 }
 
-/// The seats of the round are found, one row after another.
-fn put_seats(found: &mut [Option<Seat>], register: &Register, rows: &[AllotRow], number: u16)
-    requires { AreFound number register.now.people rows.now rows.now found.old }
-    ensures { AreFound number register.now.people rows.now [] found.new }
-{
-    for row in rows {
-        put_seat(found, register, *row, number);
-    }
-}
-
 /// The first seat that some rows give each person of the register in a round.
 pub(crate) fn seats_in(
     alloc: Global,
@@ -60,7 +50,9 @@ pub(crate) fn seats_in(
     ensures { IfOk result (λ found. AreFound number register.now.people rows.now [] found.items) }
 {
     let mut found = vec![in alloc; None; register.people().len()]?;
-    put_seats(&mut found, register, rows, number);
+    for row in rows {
+        put_seat(&mut found, register, *row, number);
+    }
     Ok(found)
 }
 
@@ -103,25 +95,6 @@ fn next_stranger(
     }
 }
 
-/// The first row of a round whose candidate is not in the register, by candidates.
-fn stranger(register: &Register, rows: &[AllotRow], number: u16) -> Option<AllotRow>
-    ensures { IsStranger number register.now.people rows.now [] result }
-{
-    let mut best: Option<AllotRow> = None;
-    for row in rows {
-        best = next_stranger(register, best, *row, number);
-    }
-    best
-}
-
-/// The id of the person at this place.
-fn id_at(people: &[Person], at: usize) -> CandId
-    requires { at < length people.now }
-    ensures { option_map (λ person. person.id) (slice_get people.now at) ≡ Some result }
-{
-    people[at].id
-}
-
 /// The first difference among the people of the register.
 fn difference_inside(
     register: &Register,
@@ -137,7 +110,7 @@ fn difference_inside(
     let people = register.people();
     let at = first_place(kept, computed)?;
     Some(Difference {
-        cand: id_at(people, at),
+        cand: people[at].id,
         kept: kept[at],
         computed: computed[at],
     })
@@ -148,7 +121,11 @@ fn difference_outside(register: &Register, rows: &[AllotRow], number: u16) -> Op
     ensures { (seats : List (Option AnySeat)) → IsComparisonOf (IsOfNobody register.now.people)
         (λ id. first_allot number id rows.now) (seat_along register.now.people seats) result }
 {
-    let row = stranger(register, rows, number)?;
+    let mut best: Option<AllotRow> = None;
+    for row in rows {
+        best = next_stranger(register, best, *row, number);
+    }
+    let row = best?;
     Some(Difference {
         cand: row.cand,
         kept: Some(Seat {

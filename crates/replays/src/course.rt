@@ -1,7 +1,7 @@
 // Kept records are replayed, window after window.
 ghost use Rattle.std.specs.Prelude.{◌≡◌, ◌<◌, ◌+◌, ℕ, [], None, IfOk, IfErr, OnOk, length};
 ghost use Rattle.office_moves.specs.Stands.{AreRecordsOf, published_seat, seat_in_finals};
-ghost use Rattle.office_moves.specs.State.{opening, seat_in};
+ghost use Rattle.office_moves.specs.State.{opening};
 ghost use Rattle.replays.specs.Acts.{kept_acts, window_acts};
 ghost use Rattle.replays.specs.Counted.{AreCounted, Follow, counted};
 ghost use Rattle.replays.specs.Differences.{seat_along};
@@ -48,24 +48,8 @@ fn final_seats(
     }
 }
 
-/// The seats of a published round, along the register; nobody has one in any other.
-fn round_seats(
-    alloc: Global,
-    book: &Proceedings,
-    number: u16,
-) -> Result<Vec<Option<Seat>>, OutOfMemory>
-    ensures full { IfOk result (λ seats. length seats.items ≡ length book.now.season.people) }
-    ensures seats { IfOk result (λ seats. (id : ℕ) → seat_along book.now.season.people
-        seats.items id ≡ seat_in book.now.season book.now.state.rounds number id) }
-{
-    let _entries = book.entries();
-    match book.round(number) {
-        Some(round) => Ok(Vec::from_slice(alloc, round.seats.as_slice())?),
-        None => nobodys_seats(alloc, book),
-    }
-}
-
-/// The seats of a round along the register; for the number after the last round, the final ones.
+/// The seats of a published round along the register, and for the number after the last round the final ones.
+/// Nobody has a seat in any other.
 fn published_seats(
     alloc: Global,
     book: &Proceedings,
@@ -78,9 +62,12 @@ fn published_seats(
     let season = book.season();
     says_what_is_sound(season);
     if number == season.rounds + 1 {
-        final_seats(alloc, book, number)
-    } else {
-        round_seats(alloc, book, number)
+        return final_seats(alloc, book, number);
+    }
+    let _entries = book.entries();
+    match book.round(number) {
+        Some(round) => Ok(Vec::from_slice(alloc, round.seats.as_slice())?),
+        None => nobodys_seats(alloc, book),
     }
 }
 

@@ -1,50 +1,17 @@
 // The cut of the open window.
-ghost use Rattle.std.specs.Prelude.{◌≡◌, ◌<◌, ◌+◌, ◌∷◌, [], IfErr, OnOk};
+ghost use Rattle.std.specs.Prelude.{◌≡◌, ◌∷◌, [], IfErr, OnOk};
 ghost use Rattle.office_moves.specs.declared.moves.Act.TheVariants.{Cut};
-ghost use Rattle.proceedings.specs.Proceeding.{last_of};
 ghost use Rattle.replays.specs.Counted.{Follow};
 ghost use Rattle.replays.specs.Replay.{CutPasses};
 ghost use Rattle.replays.specs.Steps.{IsRefusedCut};
 
 use crate::fault::ReplayFault;
 use crate::rows::next_entry;
-use office_base::OutOfMemory;
 use proceedings::Proceedings;
 use round_cut::next_round;
 use std::alloc::Global;
 
-/// The cut publishes the next round, as entry of this number.
-fn publish(alloc: Global, book: &mut Proceedings, number: u64) -> Result<(), OutOfMemory>
-    requires left { book.old.state.now < book.old.season.rounds }
-    requires number { number ≡ last_of book.old.entries + 1 }
-    requires space { book.old.still < book.old.room }
-    ensures passes { OnOk result (CutPasses book.old.season book.old.state book.new.state) }
-    ensures season { book.new.season ≡ book.old.season }
-    ensures entries { OnOk result
-        (Follow (Cut book.old.state.now ∷ []) book.old.entries book.new.entries) }
-{
-    let round = next_round(alloc, book)?;
-    let table = book.next_table(alloc)?;
-    book.publish(number, round, table);
-    Ok(())
-}
-
-/// The last cut gives the final rows, as entry of this number.
-fn finish(alloc: Global, book: &mut Proceedings, number: u64) -> Result<(), OutOfMemory>
-    requires last { book.old.state.now ≡ book.old.season.rounds }
-    requires number { number ≡ last_of book.old.entries + 1 }
-    requires space { book.old.still < book.old.room }
-    ensures passes { OnOk result (CutPasses book.old.season book.old.state book.new.state) }
-    ensures season { book.new.season ≡ book.old.season }
-    ensures entries { OnOk result
-        (Follow (Cut book.old.state.now ∷ []) book.old.entries book.new.entries) }
-{
-    let rows = book.final_rows(alloc)?;
-    book.finish(number, rows);
-    Ok(())
-}
-
-/// The cut of the open window; there is none after the last one.
+/// The cut of the open window publishes the next round, or gives the final rows. There is none after the last one.
 pub(crate) fn replay_cut(alloc: Global, book: &mut Proceedings) -> Result<(), ReplayFault>
     ensures passes { OnOk result (CutPasses book.old.season book.old.state book.new.state) }
     ensures season { book.new.season ≡ book.old.season }
@@ -59,9 +26,12 @@ pub(crate) fn replay_cut(alloc: Global, book: &mut Proceedings) -> Result<(), Re
         return Err(ReplayFault::Stray { row: 0 });
     }
     if window < rounds {
-        publish(alloc, book, number)?;
-    } else {
-        finish(alloc, book, number)?;
+        let round = next_round(alloc, book)?;
+        let table = book.next_table(alloc)?;
+        book.publish(number, round, table);
+        return Ok(());
     }
+    let rows = book.final_rows(alloc)?;
+    book.finish(number, rows);
     Ok(())
 }

@@ -1,4 +1,4 @@
-use Rattle.std.proofs.Common.{◌∙◌, List, None, arith, sym, ap}
+use Rattle.std.proofs.Common.{◌∙◌, List, None, arith, length, sym, ap}
 use Rattle.std.specs.Prelude.{option_map, slice_get}
 use Rattle.std.proofs.lemmas.Option.{slice_get-get_or}
 use Rattle.office_base.specs.declared.person.Person.{Person}
@@ -13,7 +13,9 @@ returns c = λ rows number found.
     let less = c.in_ok-at.ensures.0 in
     let full = c.requires.computed in
     let kept = c.requires.kept in
+    let long = ap (λ (l : List Person). length l) c.people-people.ensures.same in
+    let there = ap (λ (l : List Person). slice_get l c.in_ok-at.at) (sym c.people-people.ensures.same) ∙ slice_get-get_or c.people-people.result.now c.in_ok-at.at _ (omega (arith, less, kept, long)) in
     inside_at number _ rows c.args.kept.now c.args.computed.now c.in_ok-at.at _ _ _ c.people-people.ensures.ranks.rising c.requires.computed found c.in_ok-at.ensures
-    (ap (λ (l : List Person). option_map (λ (p : Person). p.id) (slice_get l c.in_ok-at.at)) (sym c.people-people.ensures.same) ∙ c.id_at.ensures)
+    (ap (option_map (λ (p : Person). p.id)) there)
     (slice_get-get_or c.args.kept.now c.in_ok-at.at None less)
     (slice_get-get_or c.args.computed.now c.in_ok-at.at None (omega (arith, less, full, kept)))

@@ -1,8 +1,0 @@
-use Rattle.std.proofs.Common.{subst}
-use Rattle.std.proofs.lemmas.List.{drop_more}
-use Rattle.replays.specs.Differences.{IsStranger}
-use Rattle.replays.proofs.compare.stranger.Goals as goal
-
-pub loop-row-preserved : goal.loop-row-preserved
-loop-row-preserved c =
-    c.next_stranger-best.ensures c.args.rows.now _ (subst (λ rest. IsStranger c.args.number c.args.register.now.people c.args.rows.now rest c.loop-row.best) (drop_more c.args.rows.now c.loop-row.row-index _ c.loop-row-test.true) c.loop-row.invariant)
