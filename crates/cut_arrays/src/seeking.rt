@@ -1,8 +1,7 @@
 // What the candidates seek next.
-ghost use Rattle.std.specs.Prelude.{◌≡◌, ◌<◌, ◌≤◌, ◌^◌, IfOk, IsSome, length, option_copied, option_map, true};
+ghost use Rattle.std.specs.Prelude.{◌≡◌, ◌<◌, ◌≤◌, ◌^◌, IfOk, length, option_copied, option_map};
 ghost use Rattle.allocations.specs.Market.{place_of};
-ghost use Rattle.round_options.specs.Options.{holds};
-ghost use Rattle.cut_arrays.specs.NextSeeks.{AreSeated, seek_for, seeks_after};
+ghost use Rattle.cut_arrays.specs.NextSeeks.{AreSeated, seeks_after};
 ghost use Rattle.cut_arrays.specs.WindowEnd.{seats_of, standings};
 
 use crate::standing::{round_seat, stand};
@@ -11,7 +10,6 @@ use choice_lists::Choices;
 use office_base::{Listed, OutOfMemory, Person, ProgId, Seat};
 use round_options::{Standing, next_seek};
 use rounds::{Round, Seeks};
-use seeks::Seek;
 use std::alloc::Global;
 
 /// Returns the place of a programme on a list, counted from 0, or the length of the list if the programme is not on it.
@@ -38,15 +36,6 @@ fn seat_place(list: &[ProgId], seat: Option<Seat>) -> Option<u16>
     }
 }
 
-/// What a candidate with this list seeks next.
-fn seek_for(list: &[ProgId], standing: Standing, seat: Option<Seat>) -> Seek
-    requires short { length list.now ≤ 1000 }
-    requires seated { holds standing ≡ true → IsSome seat }
-    ensures { result ≡ seek_for list.now standing seat }
-{
-    next_seek(standing, seat_place(list, seat))
-}
-
 /// What each of the people seeks after the answers of a window, by how the last cut left them and the last published round, where there is one.
 pub fn seeks_after(
     alloc: Global,
@@ -70,8 +59,8 @@ pub fn seeks_after(
     for (at, person) in people.iter().enumerate() {
         let standing = stand(left[at], table, at);
         let seat = round_seat(last, at, count);
-        let seek = seek_for(choices.list_near(at, person.id), standing, seat);
-        seeks.push(seek)?;
+        let place = seat_place(choices.list_near(at, person.id), seat);
+        seeks.push(next_seek(standing, place))?;
     }
     Ok(Listed::from_vec(seeks))
 }
