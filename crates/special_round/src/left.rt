@@ -1,5 +1,5 @@
 // What final rows leave of the seats and protections of a step.
-ghost use Rattle.std.specs.Prelude.{◌≡◌, ◌≤◌, ◌<◌, ◌-◌, IfOk, length, min, sum};
+ghost use Rattle.std.specs.Prelude.{◌≡◌, ◌≤◌, ◌<◌, IfOk, length, sum};
 ghost use Rattle.office_base.specs.CategorySteps.{row_of};
 ghost use Rattle.office_base.specs.Merit.{CanBeRanked};
 ghost use Rattle.office_base.specs.Person.{IsList};
@@ -110,15 +110,6 @@ fn count_on(pairs: &[Pair], t: u8) -> usize
     count
 }
 
-// Returns what these pairs leave of the protection of one trait, as far as there is room.
-fn protection_left(count: u16, pairs: &[Pair], t: u8, room: usize) -> u16
-    ensures { result ≡ min (count - placed_on t pairs.now) room }
-{
-    usize::from(count)
-        .saturating_sub(count_on(pairs, t))
-        .min(room) as u16
-}
-
 /// Returns what pairs leave of protections, as far as there are seats. It goes trait by trait.
 /// Each trait has at most the seats that the traits before it do not have.
 pub(crate) fn what_is_left(old: &Protections, pairs: &[Pair], seats: usize) -> Protections
@@ -127,7 +118,8 @@ pub(crate) fn what_is_left(old: &Protections, pairs: &[Pair], seats: usize) -> P
     let mut counts = [0; 6];
     let mut room = seats;
     for t in 0..6u8 {
-        let left = protection_left(old.counts[usize::from(t)], pairs, t, room);
+        let count = usize::from(old.counts[usize::from(t)]);
+        let left = count.saturating_sub(count_on(pairs, t)).min(room) as u16;
         counts[usize::from(t)] = left;
         room -= usize::from(left);
     }

@@ -43,28 +43,6 @@ fn set_step(
     Ok(())
 }
 
-/// Gives each step of a programme what its rows leave of the table.
-fn set_programme(
-    alloc: Global,
-    register: &Register,
-    rows: &[AllotRow],
-    table: &Matrix,
-    prog: ProgId,
-    left: &mut Matrix,
-) -> Result<(), OutOfMemory>
-    requires programme { prog.0 < length table.now.programmes }
-    requires people { (step : StepKind) → CanBeRanked (list_in table.now prog.0)
-        (finals_of register.now.people rows.now prog.0 step) }
-    requires same { left.old.programmes ≡ table.now.programmes }
-    ensures set { OnOk result
-        (AreLeftIn register.now.people rows.now table.now prog.0 left.old left.new) }
-{
-    for step in OWN_STEPS {
-        set_step(alloc, register, rows, table, prog, step, left)?;
-    }
-    Ok(())
-}
-
 /// Gives each step of a programme what final rows leave of the table.
 fn set_from(
     alloc: Global,
@@ -84,7 +62,11 @@ fn set_from(
     own_rows_rank();
     own_rows_say_all();
     let own = rows_of_programme(alloc, finals, prog)?;
-    set_programme(alloc, register, own.as_slice(), table, prog, left)
+    let rows = own.as_slice();
+    for step in OWN_STEPS {
+        set_step(alloc, register, rows, table, prog, step, left)?;
+    }
+    Ok(())
 }
 
 /// Returns what final rows leave of a matrix. Fails only when memory runs out.
