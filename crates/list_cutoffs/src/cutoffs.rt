@@ -1,12 +1,11 @@
 // The lines of a programme's lists, one list after another.
-ghost use Rattle.std.specs.Prelude.{◌≡◌, ◌++◌, List, IfOk, OnOk, map};
-ghost use Rattle.merit_choice.specs.State.{IsStepKept};
+ghost use Rattle.std.specs.Prelude.{◌≡◌, ◌++◌, IfOk, OnOk, map};
 ghost use Rattle.seat_matrix.specs.Seats.{AreProgrammeSeats};
-ghost use Rattle.list_cutoffs.specs.Cutoffs.{AreCutoffsIn, AreKeptListed, AreLinesIn, kept_listed, under};
+ghost use Rattle.list_cutoffs.specs.Cutoffs.{AreCutoffsIn, AreKeptListed, under};
 
 use cutoff_lines::{CutoffLine, cutoffs_of};
 use office_base::{Listed, OutOfMemory, StepKind, TraitSet};
-use programme_lists::{Programme, ProgrammeSeats, StepList};
+use programme_lists::{Programme, ProgrammeSeats};
 use std::alloc::Global;
 use step_cutoffs::Cutoff;
 
@@ -36,24 +35,6 @@ fn push_under(
     Ok(())
 }
 
-/// Puts the lines of a list at the end. If memory runs out, some of them are at the end.
-fn add_lines(
-    alloc: Global,
-    seats: &ProgrammeSeats,
-    list: &StepList,
-    cutoffs: &mut Listed<StepCutoff>,
-) -> Result<(), OutOfMemory>
-    requires seats { AreProgrammeSeats seats.now }
-    requires kept { IsStepKept (kept_listed seats.now list.now) }
-    ensures { OnOk result ((lines : List StepCutoff) × AreLinesIn seats.now list.now lines
-        × (cutoffs.new ≡ cutoffs.old ++ lines)) }
-{
-    let protections = seats.of(list.kind).protections;
-    let held = list.admitted.as_slice();
-    let lines = cutoffs_of(alloc, seats.list, list.seats, &protections, held)?;
-    push_under(cutoffs, list.kind, lines.as_slice())
-}
-
 /// Returns the cutoffs of a programme in a published round, from its lists there: for each step, in the order of the
 /// lists, the lines that give the cutoff of each set of traits, in the order of the sets' numbers. No line can be left
 /// out, and a step that admits nobody has none. Of the seats of the matrix it looks at the merit list and the
@@ -69,7 +50,10 @@ pub fn cutoffs_in(
 {
     let mut cutoffs = Listed::new(alloc);
     for list in lists.steps.as_slice() {
-        add_lines(alloc, seats, list, &mut cutoffs)?;
+        let protections = seats.of(list.kind).protections;
+        let held = list.admitted.as_slice();
+        let lines = cutoffs_of(alloc, seats.list, list.seats, &protections, held)?;
+        push_under(&mut cutoffs, list.kind, lines.as_slice())?;
     }
     Ok(cutoffs)
 }
