@@ -29,13 +29,6 @@ use programme_lists::Programme;
 use seat_matrix::{Matrix, ProgrammeSeats};
 use std::alloc::Global;
 
-/// The persons whom the list of a step names.
-fn named(programme: &Programme, kind: StepKind) -> &[Person]
-    ensures { result.now ≡ (list_of_step programme.now kind).admitted }
-{
-    list_of(programme, kind).admitted.as_slice()
-}
-
 /// The first clause that the step of a category breaks, from those whom the open step left.
 fn category_fault(
     alloc: Global,
@@ -106,7 +99,8 @@ fn fault_in_order(
     if let Some(fault) = step_fault(alloc, version, seats, programme, StepKind::Open, ranked)? {
         return Ok(Some(fault));
     }
-    let rest = without(alloc, ranked, named(programme, StepKind::Open))?;
+    let first = list_of(programme, StepKind::Open);
+    let rest = without(alloc, ranked, first.admitted.as_slice())?;
     if let Some(fault) = category_fault(alloc, version, seats, programme, rest.as_slice())? {
         return Ok(Some(fault));
     }

@@ -1,5 +1,5 @@
 // The numbers that a list shows: its seats and its candidates.
-ghost use Rattle.std.specs.Prelude.{◌≡◌, ◌↔◌, ◌+◌, IsTrue, length};
+ghost use Rattle.std.specs.Prelude.{◌≡◌, ◌↔◌, ◌+◌, IsTrue};
 ghost use Rattle.office_base.specs.declared.step.StepKind.TheVariants.{Dereserved as DereservedStep};
 ghost use Rattle.seat_matrix.specs.Seats.{AreProgrammeSeats};
 ghost use Rattle.list_audit.specs.Clauses.{HasSeats, list_of_step, named_by, seats_held, seats_shared};
@@ -13,13 +13,6 @@ pub(crate) fn list_of(programme: &Programme, kind: StepKind) -> &StepList
     ensures { result.now ≡ list_of_step programme.now kind }
 {
     &programme.steps[usize::from(step_number(kind))]
-}
-
-/// How many persons the lists of a step name.
-fn named_in(programme: &Programme, kind: StepKind) -> usize
-    ensures { result ≡ length (list_of_step programme.now kind).admitted }
-{
-    list_of(programme, kind).admitted.len()
 }
 
 /// The seats of the categories whose unfilled seats go to the last step.
@@ -44,7 +37,7 @@ fn seats_told(version: u8, programme: &Programme) -> u128
     let mut told = u128::from(list_of(programme, StepKind::Dereserved).seats);
     for row in CATEGORY_STEPS {
         if gives_up(row, version) {
-            told += named_in(programme, row.step) as u128;
+            told += list_of(programme, row.step).admitted.len() as u128;
         }
     }
     told
