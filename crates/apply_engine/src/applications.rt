@@ -1,5 +1,5 @@
 // The applications: one offer, the offers until all so far are settled, and all of them.
-ghost use Rattle.std.specs.Prelude.{◌≡◌, ◌<◌, ◌≤◌, ◌+◌, ℕ, List, Some, None, IfOk, length, replicate, slice_get, slice_set, slice_index, sum};
+ghost use Rattle.std.specs.Prelude.{◌≡◌, ◌<◌, ◌≤◌, ◌+◌, ℕ, List, Some, None, IfOk, length, slice_get, slice_set, slice_index, sum};
 ghost use Rattle.allocations.specs.Course.{places, places_left};
 ghost use Rattle.office_base.specs.Version.{IsVersion};
 ghost use Rattle.apply_engine.specs.Engine.{Setting, AreSettledBefore, AreTallied, Enters, HasApplied, HasRun, IsGoing, IsNextToPropose, Leaves, MayPropose, seekers_in};
@@ -109,13 +109,6 @@ fn apply_in_order<L: Ledger>(
     }
 }
 
-/// So many zeros.
-fn zeros(alloc: Global, count: usize) -> Result<Vec<u16>, OutOfMemory>
-    ensures { IfOk result (λ zeros. zeros.items ≡ replicate count 0) }
-{
-    Ok(vec![in alloc; 0u16; count]?)
-}
-
 /// All applications, from the first one on: a step for each.
 pub(crate) fn apply_all<L: Ledger>(
     alloc: Global,
@@ -134,7 +127,7 @@ pub(crate) fn apply_all<L: Ledger>(
 {
     let mut states = begin_states(alloc, matrix, version)?;
     let mut tallies = begin_tallies(alloc, matrix)?;
-    let mut next = zeros(alloc, lists.len())?;
+    let mut next = vec![in alloc; 0u16; lists.len()]?;
     apply_in_order(register, lists, &mut states, &mut tallies, &mut next, steps);
     Ok(Applied {
         states,

@@ -1,4 +1,4 @@
-use Rattle.std.proofs.Common.{◌≡◌, ◌+◌, ◌∙◌, ℕ, List, length, sym, subst, ap}
+use Rattle.std.proofs.Common.{◌≡◌, ◌+◌, ◌∙◌, ℕ, List, length, sym, subst, ap, rules}
 use Rattle.std.specs.Prelude.{replicate, sum}
 use Rattle.office_base.proofs.Lists.{whole_again}
 use Rattle.open_then_category.specs.State.{ProgrammeKept}
@@ -9,7 +9,7 @@ use Rattle.apply_engine.proofs.applications.apply_all.Goals as goal
 
 pub apply_in_order-requires : goal.apply_in_order-requires
 apply_in_order-requires g c = λ κs within.
-    let zeros = c.deref_mut-3.ensures.value ∙ (c.in_ok-next.ensures ∙ ap (λ (n : ℕ). replicate n 0) c.len.ensures) in (
+    let zeros = c.deref_mut-3.ensures.value ∙ (c.in_ok-next.ensures.items_if_clones_equal (λ y h. search rules) ∙ ap (λ (n : ℕ). replicate n 0) c.len.ensures) in (
       λ a member. within a member,
       (
         enters g.over _ _ _ _ _ _ c.requires.1 (subst (λ (states : List ProgrammeKept). AreBegun c.args.version c.args.matrix.now states) (sym c.deref_mut.ensures.value) c.in_ok-states.ensures) zeros,
@@ -19,7 +19,7 @@ apply_in_order-requires g c = λ κs within.
 
 pub returns-clause-run : goal.returns-clause-run
 returns-clause-run g c =
-    let zeros = c.deref_mut-3.ensures.value ∙ (c.in_ok-next.ensures ∙ ap (λ (n : ℕ). replicate n 0) c.len.ensures) in
+    let zeros = c.deref_mut-3.ensures.value ∙ (c.in_ok-next.ensures.items_if_clones_equal (λ y h. search rules) ∙ ap (λ (n : ℕ). replicate n 0) c.len.ensures) in
     let begun = enters g.over _ _ _ _ _ _ c.requires.1 (subst (λ (states : List ProgrammeKept). AreBegun c.args.version c.args.matrix.now states) (sym c.deref_mut.ensures.value) c.in_ok-states.ensures) zeros in
     let untried = enters_untried g.over _ _ _ _ _ _ c.requires.1 (subst (λ (tallies : List Tried). AreUntried c.args.matrix.now tallies) (sym c.deref_mut-2.ensures.value) c.in_ok-tallies.ensures) zeros in
     let after = c.apply_in_order.ensures.applied in
@@ -35,11 +35,11 @@ returns-clause-run g c =
 
 pub returns-clause-cost : goal.returns-clause-cost
 returns-clause-cost g c =
-    at_most g.over _ _ _ _ _ _ _ _ _ _ c.requires.1 (c.deref_mut-3.ensures.value ∙ (c.in_ok-next.ensures ∙ ap (λ (n : ℕ). replicate n 0) c.len.ensures)) c.apply_in_order.ensures.applied
+    at_most g.over _ _ _ _ _ _ _ _ _ _ c.requires.1 (c.deref_mut-3.ensures.value ∙ (c.in_ok-next.ensures.items_if_clones_equal (λ y h. search rules) ∙ ap (λ (n : ℕ). replicate n 0) c.len.ensures)) c.apply_in_order.ensures.applied
 
 pub returns-clause-counted : goal.returns-clause-counted
 returns-clause-counted g c =
-    let zeros = c.deref_mut-3.ensures.value ∙ (c.in_ok-next.ensures ∙ ap (λ (n : ℕ). replicate n 0) c.len.ensures) in
+    let zeros = c.deref_mut-3.ensures.value ∙ (c.in_ok-next.ensures.items_if_clones_equal (λ y h. search rules) ∙ ap (λ (n : ℕ). replicate n 0) c.len.ensures) in
     let begun = enters g.over _ _ _ _ _ _ c.requires.1 (subst (λ (states : List ProgrammeKept). AreBegun c.args.version c.args.matrix.now states) (sym c.deref_mut.ensures.value) c.in_ok-states.ensures) zeros in
     let after = c.apply_in_order.ensures.applied in
     let same : length c.apply_in_order.new.next ≡ length c.in_ok-next.next.items = after.going.underway.full ∙ (sym begun.going.underway.full ∙ ap length c.deref_mut-3.ensures.value) in
