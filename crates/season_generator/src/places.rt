@@ -1,8 +1,8 @@
 // The places of candidates in a merit list.
-ghost use Rattle.std.specs.Prelude.{◌≡◌, ◌<◌, ◌≤◌, ◌+◌, ◌-◌, IfOk, OnOk, length, swap};
+ghost use Rattle.std.specs.Prelude.{◌≡◌, ◌<◌, ◌≤◌, ◌-◌, IfOk, OnOk, length};
 ghost use Rattle.std.specs.List.{range_with_len};
 ghost use Rattle.season_generator.specs.Bundle.{exchanged, places};
-ghost use Rattle.season_generator.specs.Draws.{state_after, drawn, next};
+ghost use Rattle.season_generator.specs.Draws.{state_after};
 
 use crate::draws::Draws;
 use office_base::OutOfMemory;
@@ -30,20 +30,10 @@ impl Draws {
     {
         let mut last = held.len() - 1;
         while 0 < last {
-            self.exchange_last(held, last);
+            let other = self.draw(last as u32 + 1);
+            held.swap(last, other as usize);
             last -= 1;
         }
-    }
-
-    /// Exchanges one place with one drawn among those up to it.
-    fn exchange_last(&mut self, held: &mut [u32], last: usize)
-        requires within { last < length held.old }
-        requires bound { length held.old < 4294967296 }
-        ensures places { held.new ≡ swap held.old last (drawn (last + 1) self.old.state) }
-        ensures state { self.new.state ≡ next self.old.state }
-    {
-        let other = self.draw(last as u32 + 1);
-        held.swap(last, other as usize);
     }
 }
 

@@ -1,6 +1,6 @@
 // What is drawn for a candidate.
 ghost use Rattle.std.specs.Prelude.{◌≡◌, ◌<◌, ◌≤◌};
-ghost use Rattle.season_generator.specs.Bundle.{category_of, has_relaxed, profile_at, stride_of};
+ghost use Rattle.season_generator.specs.Bundle.{category_of, profile_at, stride_of};
 ghost use Rattle.season_generator.specs.Draws.{state_after};
 
 use crate::draws::Draws;
@@ -41,7 +41,7 @@ impl Draws {
             category,
             women,
             disabled,
-            relaxed: has_relaxed(category) && relaxed,
+            relaxed: category != Category::Gen && relaxed,
             first,
             stride,
         }
@@ -59,13 +59,6 @@ fn category_of(number: u32) -> Category
         16..=18 => Category::Sc,
         _ => Category::St,
     }
-}
-
-/// Whether a category may have relaxed places.
-fn has_relaxed(category: Category) -> bool
-    ensures { result ≡ has_relaxed category }
-{
-    category != Category::Gen
 }
 
 /// How far a choice is from the one before, by a number below 4.

@@ -1,8 +1,8 @@
 // The requests of a generated season.
-ghost use Rattle.std.specs.Prelude.{◌≡◌, ◌≤◌, ◌+◌, ◌*◌, ◌++◌, OnOk};
+ghost use Rattle.std.specs.Prelude.{◌≡◌, ◌≤◌, ◌+◌, ◌++◌, OnOk};
 ghost use Rattle.office_base.specs.Limits.{most_generated};
-ghost use Rattle.season_generator.specs.Bundle.{answer_row, choice_name, cut_row, lines, requests_text, window_rows};
-ghost use Rattle.season_generator.specs.Draws.{state_after, drawn, next};
+ghost use Rattle.season_generator.specs.Bundle.{answer_row, choice_name, cut_row, lines, requests_text};
+ghost use Rattle.season_generator.specs.Draws.{state_after, drawn};
 
 use crate::draws::Draws;
 use crate::spelling::push_field;
@@ -13,36 +13,17 @@ use office_text::push_number;
 const ROUNDS: u32 = 6;
 
 /// Puts the requests of `n` candidates and of the clerk. The answers are drawn from here on.
-pub(crate) fn push_requests(out: &mut Text, draws: Draws, n: u32) -> Result<(), OutOfMemory>
+pub(crate) fn push_requests(out: &mut Text, mut draws: Draws, n: u32) -> Result<(), OutOfMemory>
     requires { n ≤ most_generated }
     ensures { OnOk result (out.new ≡ out.old ++ requests_text n draws.state) }
 {
     out.extend_from_slice(b"[requests]\n")?;
     push_cut(out, 0)?;
-    push_windows(out, draws, n)
-}
-
-/// Puts the rows of the windows after window 0.
-fn push_windows(out: &mut Text, mut draws: Draws, n: u32) -> Result<(), OutOfMemory>
-    requires { n ≤ most_generated }
-    ensures { OnOk result (out.new ≡ out.old
-        ++ lines 6 (λ before. window_rows n (state_after (n * before) draws.state) (before + 1))) }
-{
     for before in 0..ROUNDS {
-        push_window(out, &mut draws, n, before + 1)?;
+        push_answers(out, &mut draws, n, before + 1)?;
+        push_cut(out, before + 1)?;
     }
     Ok(())
-}
-
-/// Puts the rows of a window.
-#[tactic(auto, unfolding(crate::specs::Bundle::window_rows))]
-fn push_window(out: &mut Text, draws: &mut Draws, n: u32, window: u32) -> Result<(), OutOfMemory>
-    requires { n ≤ most_generated }
-    ensures rows { OnOk result (out.new ≡ out.old ++ window_rows n draws.old.state window) }
-    ensures state { OnOk result (draws.new.state ≡ state_after n draws.old.state) }
-{
-    push_answers(out, draws, n, window)?;
-    push_cut(out, window)
 }
 
 /// Puts an answer of each candidate.
@@ -53,19 +34,10 @@ fn push_answers(out: &mut Text, draws: &mut Draws, n: u32, window: u32) -> Resul
     ensures state { OnOk result (draws.new.state ≡ state_after n draws.old.state) }
 {
     for candidate in 0..n {
-        push_drawn(out, draws, window, candidate + 1)?;
+        let number = draws.draw(20);
+        push_answer(out, window, candidate + 1, choice_name(number))?;
     }
     Ok(())
-}
-
-/// Puts the row of an answer that is drawn.
-fn push_drawn(out: &mut Text, draws: &mut Draws, window: u32, id: u32) -> Result<(), OutOfMemory>
-    ensures row { OnOk result
-        (out.new ≡ out.old ++ answer_row window id (choice_name (drawn 20 draws.old.state))) }
-    ensures state { draws.new.state ≡ next draws.old.state }
-{
-    let choice = choice_name(draws.draw(20));
-    push_answer(out, window, id, choice)
 }
 
 /// The answer of a number below 20.

@@ -1,6 +1,6 @@
 // The summary of a generated season that was run.
 ghost use Rattle.std.specs.Prelude.{◌≡◌, ◌++◌, IfOk, OnOk};
-ghost use Rattle.season_generator.specs.Summary.{admitted_line, answers_line, generated_line, round_line, round_lines, summary_text};
+ghost use Rattle.season_generator.specs.Summary.{admitted_line, answers_line, generated_line, round_lines, summary_text};
 
 use office_base::{Listed, OutOfMemory, Text};
 use office_text::push_number;
@@ -52,20 +52,13 @@ fn push_rounds(out: &mut Text, rounds: &[usize]) -> Result<(), OutOfMemory>
     ensures { OnOk result (out.new ≡ out.old ++ round_lines 1 rounds.now) }
 {
     for (before, seated) in rounds.iter().enumerate() {
-        push_round(out, before + 1, *seated)?;
+        out.extend_from_slice(b"round ")?;
+        push_count(out, before + 1)?;
+        out.extend_from_slice(b" seated ")?;
+        push_count(out, *seated)?;
+        out.extend_from_slice(b"\n")?;
     }
     Ok(())
-}
-
-/// Puts the line of a round.
-fn push_round(out: &mut Text, number: usize, seated: usize) -> Result<(), OutOfMemory>
-    ensures { OnOk result (out.new ≡ out.old ++ round_line number seated) }
-{
-    out.extend_from_slice(b"round ")?;
-    push_count(out, number)?;
-    out.extend_from_slice(b" seated ")?;
-    push_count(out, seated)?;
-    out.extend_from_slice(b"\n")
 }
 
 /// Puts the line of the answers.

@@ -5,8 +5,8 @@ use Rattle.season_generator.proofs.draws.Draws.exchange.Goals as goal
 pub loop-last-preserved : goal.loop-last-preserved
 loop-last-preserved c = record {
   within = omega arith;
-  places = exchange_goes_on _ _ _ _ _ _ c.loop-last-test.true c.exchange_last.ensures.state c.exchange_last.ensures.places c.loop-last.invariant.places;
-  state = draws_go_on _ _ _ _ c.loop-last-test.true c.exchange_last.ensures.state c.loop-last.invariant.state;
+  places = exchange_goes_on _ _ _ _ _ _ c.loop-last-test.true c.draw-other.ensures.state (rw c.draw-other.ensures.number at c.swap.ensures.after) c.loop-last.invariant.places;
+  state = draws_go_on _ _ _ _ c.loop-last-test.true c.draw-other.ensures.state c.loop-last.invariant.state;
 }
 
 pub returns-clause-places : goal.returns-clause-places

@@ -1,6 +1,0 @@
-use Rattle.std.proofs.Common.{◌≡◌, ◌++◌, ◌+◌, ◌*◌, ◌%◌, codes}
-use Rattle.season_generator.specs.Bundle.{programme_code, lines}
-use Rattle.season_generator.proofs.candidates.push_programmes.Given as goal
-
-abbrev pub invariant-loop-place : goal.invariant-loop-place
-invariant-loop-place l = l.out ≡ l.fn.out ++ lines l.place (λ place. codes "," ++ programme_code ((l.profile.first + place * l.profile.stride) % 100))
