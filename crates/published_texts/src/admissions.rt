@@ -1,7 +1,7 @@
 // The text of the final admissions.
 ghost use Rattle.std.specs.Prelude.{◌≡◌, ◌<◌, ◌++◌, OnOk, IfOk, length};
 ghost use Rattle.std.specs.List.{AllByRecursion};
-ghost use Rattle.published_texts.specs.Texts.{admit_line, final_head, final_text};
+ghost use Rattle.published_texts.specs.Texts.{final_head, final_text};
 
 use crate::seat::{LONGEST_ENDS, LONGEST_LINE, push_seat};
 use kept_rows::AllotRow;
@@ -22,7 +22,8 @@ pub fn final_text(alloc: Global, matrix: &Matrix, rows: &[AllotRow]) -> Result<T
     let mut out = Text::with_capacity(alloc, room)?;
     push_head(&mut out, rows.len())?;
     for row in rows {
-        push_admit(&mut out, matrix, row)?;
+        out.extend_from_slice(b"admit ")?;
+        push_seat(&mut out, matrix, row.cand, row.prog, row.step)?;
     }
     out.extend_from_slice(b"end final\n")?;
     Ok(out)
@@ -35,13 +36,4 @@ fn push_head(out: &mut Text, admitted: usize) -> Result<(), OutOfMemory>
     out.extend_from_slice(b"final ")?;
     push_count(out, admitted)?;
     out.extend_from_slice(b"\n")
-}
-
-/// Puts the line of an admission.
-fn push_admit(out: &mut Text, matrix: &Matrix, row: &AllotRow) -> Result<(), OutOfMemory>
-    requires { row.now.prog.0 < length matrix.now.programmes }
-    ensures { OnOk result (out.new ≡ out.old ++ admit_line matrix.now row.now) }
-{
-    out.extend_from_slice(b"admit ")?;
-    push_seat(out, matrix, row.cand, row.prog, row.step)
 }

@@ -1,6 +1,6 @@
 // The text of a reason.
 ghost use Rattle.std.specs.Prelude.{◌≡◌, ◌<◌, ◌++◌, OnOk, IfOk, length};
-ghost use Rattle.published_texts.specs.Texts.{IsAnswerOf, better_line, reason_head, reason_lines, reason_text, step_why, why_line, worse_words};
+ghost use Rattle.published_texts.specs.Texts.{IsAnswerOf, better_line, reason_head, reason_lines, reason_text, why_line, worse_words};
 
 use crate::seat::push_code;
 use office_base::{CandId, OutOfMemory, ProgId, Text};
@@ -78,20 +78,11 @@ fn push_reason(out: &mut Text, reason: &Reason) -> Result<(), OutOfMemory>
     }
 }
 
-/// Appends the line of a step, if the person competed for its seats.
+/// Appends what counted against the person at a step, if the person competed for its seats.
 fn push_why(out: &mut Text, why: &Option<StepWhy>) -> Result<(), OutOfMemory>
     ensures { OnOk result (out.new ≡ out.old ++ why_line why.now) }
 {
-    match why {
-        Some(why) => push_step_why(out, why),
-        None => Ok(()),
-    }
-}
-
-/// Appends what counted against the person at a step.
-fn push_step_why(out: &mut Text, why: &StepWhy) -> Result<(), OutOfMemory>
-    ensures { OnOk result (out.new ≡ out.old ++ step_why why.now) }
-{
+    let Some(why) = why else { return Ok(()) };
     out.extend_from_slice(step_name(why.kind).as_bytes())?;
     out.extend_from_slice(b" seats ")?;
     push_number(out, why.seats)?;
