@@ -1,7 +1,7 @@
 // The line of a candidate's choice list.
-ghost use Rattle.std.specs.Prelude.{◌≡◌, ◌<◌, ◌++◌, IfOk, OnOk, length};
+ghost use Rattle.std.specs.Prelude.{◌≡◌, ◌<◌, IfOk, length};
 ghost use Rattle.std.specs.List.{AllByRecursion};
-ghost use Rattle.reply_texts.specs.Replies.{choice_word, choices_line};
+ghost use Rattle.reply_texts.specs.Replies.{choices_line};
 
 use crate::refusals::push_numbered;
 use office_base::{CandId, OutOfMemory, ProgId, Text};
@@ -21,18 +21,10 @@ pub(crate) fn choices_text(
     let mut out = Text::new(alloc);
     push_numbered(&mut out, b"choices ", cand.0)?;
     for prog in progs {
-        push_choice(&mut out, matrix, *prog)?;
+        let code = matrix.code(*prog);
+        out.extend_from_slice(b" ")?;
+        out.extend_from_slice(code.bytes())?;
     }
     out.extend_from_slice(b"\n")?;
     Ok(out)
-}
-
-/// Puts the code of a programme, which is of the matrix.
-fn push_choice(out: &mut Text, matrix: &Matrix, prog: ProgId) -> Result<(), OutOfMemory>
-    requires { prog.0 < length matrix.now.programmes }
-    ensures { OnOk result (out.new ≡ out.old ++ choice_word matrix.now prog) }
-{
-    let code = matrix.code(prog);
-    out.extend_from_slice(b" ")?;
-    out.extend_from_slice(code.bytes())
 }

@@ -29,22 +29,15 @@ fn push_head(out: &mut Text, person: &Person) -> Result<(), OutOfMemory>
     push_traits(out, person.traits)
 }
 
-/// Puts places behind each other.
+/// Puts places, each behind a space.
 fn push_places(out: &mut Text, places: &[Place]) -> Result<(), OutOfMemory>
     ensures { OnOk result (out.new ≡ out.old ++ flat_map place_after places.now) }
 {
     for place in places {
-        push_next(out, *place)?;
+        out.extend_from_slice(b" ")?;
+        push_place(out, *place)?;
     }
     Ok(())
-}
-
-/// Puts a place behind others.
-fn push_next(out: &mut Text, place: Place) -> Result<(), OutOfMemory>
-    ensures { OnOk result (out.new ≡ out.old ++ place_after place) }
-{
-    out.extend_from_slice(b" ")?;
-    push_place(out, place)
 }
 
 /// Puts how a set of traits is spelled: their letters in order, or a dash for none.

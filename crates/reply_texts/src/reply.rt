@@ -1,5 +1,5 @@
 // The text of a reply.
-ghost use Rattle.std.specs.Prelude.{◌≡◌, ◌<◌, ◌++◌, IfOk, IfSome, OnOk, length, option_copied};
+ghost use Rattle.std.specs.Prelude.{◌≡◌, ◌<◌, ◌++◌, IfOk, IfSome, length, option_copied};
 ghost use Rattle.std.specs.List.{AllByRecursion};
 ghost use Rattle.published_texts.specs.Texts.{IsSeatOf, final_text};
 ghost use Rattle.reply_texts.specs.Replies.{AreShownOf, IsReplyOf, IsRoundOf, final_line, noted_line, published_line, raised_line, refusal_line, reply_text, shown_text, standing_line, state_line, text_of_round};
@@ -132,7 +132,9 @@ fn published_text(
 {
     let mut out = Text::new(alloc);
     push_published(&mut out, number, seated)?;
-    push_round(alloc, &mut out, matrix, people, round)?;
+    let Some(round) = round else { return Ok(out) };
+    let shown = round_text(alloc, matrix, people, round)?;
+    out.extend_from_slice(shown.as_slice())?;
     Ok(out)
 }
 
@@ -210,21 +212,4 @@ fn refusal_text(alloc: Global, refusal: Refusal) -> Result<Text, OutOfMemory>
     let mut out = Text::new(alloc);
     push_refusal(&mut out, refusal)?;
     Ok(out)
-}
-
-/// Puts the text of the round that a cut published.
-fn push_round(
-    alloc: Global,
-    out: &mut Text,
-    matrix: &Matrix,
-    people: &[Person],
-    round: Option<&Round>,
-) -> Result<(), OutOfMemory>
-    requires { IfSome (option_copied round) (IsRoundOf matrix.now people.now) }
-    ensures { OnOk result
-        (out.new ≡ out.old ++ text_of_round matrix.now people.now (option_copied round.entry)) }
-{
-    let Some(round) = round else { return Ok(()) };
-    let text = round_text(alloc, matrix, people, round)?;
-    out.extend_from_slice(text.as_slice())
 }
