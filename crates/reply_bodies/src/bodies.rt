@@ -1,9 +1,7 @@
 // The body of a reply: its object, and the compact text of it.
-ghost use Rattle.std.specs.Prelude.{◌≡◌, ◌<◌, IfOk, false, length, option_copied};
-ghost use Rattle.serde_json.specs.Data.{string};
+ghost use Rattle.std.specs.Prelude.{◌≡◌, ◌<◌, IfOk, length, option_copied};
 ghost use Rattle.serde_json.specs.View.{view};
-ghost use Rattle.serde_json.specs.Written.{compact_text, has_float};
-ghost use Rattle.published_texts.specs.Texts.{IsAnswerOf, list_text, reason_text};
+ghost use Rattle.published_texts.specs.Texts.{IsAnswerOf};
 ghost use Rattle.reply_texts.specs.Replies.{HasTraitSlots, IsReplyOf};
 ghost use Rattle.reply_bodies.specs.Bodies.{final_data, list_data, published_data, raised_data, reply_body, reply_data, why_data};
 ghost use Rattle.reply_bodies.specs.Built.{IsBuilt};
@@ -81,15 +79,8 @@ fn built_text(
         season.now.register.people (option_copied round.entry) rows.now reply.now) }
 {
     let value = reply_value(alloc, season, round, rows, reply)?;
-    text_of(alloc, &value)
-}
-
-/// Returns the compact text of an object that has whole numbers alone.
-fn text_of(alloc: Global, value: &Value) -> Result<Text, OutOfMemory>
-    requires { has_float (view value.now) ≡ false }
-    ensures { IfOk result (λ text. text ≡ compact_text (view value.now)) }
-{
-    Ok(Text::from_vec(value.to_vec(alloc)?))
+    let text = value.to_vec(alloc)?;
+    Ok(Text::from_vec(text))
 }
 
 /// Returns the object of a reply that is not spelled straight into its text.
@@ -174,25 +165,6 @@ fn final_value(alloc: Global, admitted: u32) -> Result<Value, OutOfMemory>
     Ok(json!(in alloc; {"admitted": admitted, "reply": "final"})?)
 }
 
-/// Returns the text of a reason as a value.
-fn reason_value(
-    alloc: Global,
-    matrix: &Matrix,
-    cand: CandId,
-    prog: ProgId,
-    answer: &WhyAnswer,
-) -> Result<Value, OutOfMemory>
-    requires programme { prog.0 < length matrix.now.programmes }
-    requires answer { IsAnswerOf matrix.now answer.now }
-    ensures { IfOk result (λ value.
-        view value ≡ string (reason_text matrix.now cand.0 prog.0 answer.now)) }
-{
-    codes_are_ascii(matrix, prog);
-    answers_are_ascii(matrix, answer);
-    let text = reason_text(alloc, matrix, cand, prog, answer)?;
-    text_value(alloc, text.as_slice())
-}
-
 /// Returns why a candidate has no seat of a programme, or has one.
 fn why_value(
     alloc: Global,
@@ -205,28 +177,13 @@ fn why_value(
     requires answer { IsAnswerOf matrix.now answer.now }
     ensures { IfOk result (λ value. view value ≡ why_data matrix.now cand.0 prog.0 answer.now) }
 {
+    codes_are_ascii(matrix, prog);
+    answers_are_ascii(matrix, answer);
     let code = code_value(alloc, matrix, prog)?;
-    let text = reason_value(alloc, matrix, cand, prog, answer)?;
+    let words = reason_text(alloc, matrix, cand, prog, answer)?;
+    let text = text_value(alloc, words.as_slice())?;
     let cand = cand.0;
     Ok(json!(in alloc; {"cand": cand, "programme": &code, "reply": "why", "text": &text})?)
-}
-
-/// Returns the text of lists as a value.
-fn lists_value(
-    alloc: Global,
-    matrix: &Matrix,
-    round: u16,
-    prog: ProgId,
-    programme: &Programme,
-) -> Result<Value, OutOfMemory>
-    requires programme { prog.0 < length matrix.now.programmes }
-    requires slots { HasTraitSlots programme.now }
-    ensures { IfOk result (λ value.
-        view value ≡ string (list_text matrix.now round prog.0 programme.now)) }
-{
-    codes_are_ascii(matrix, prog);
-    let text = list_text(alloc, matrix, round, prog, programme)?;
-    text_value(alloc, text.as_slice())
 }
 
 /// Returns the lists of a programme in a round.
@@ -241,7 +198,9 @@ fn list_value(
     requires slots { HasTraitSlots programme.now }
     ensures { IfOk result (λ value. view value ≡ list_data matrix.now round prog.0 programme.now) }
 {
+    codes_are_ascii(matrix, prog);
     let code = code_value(alloc, matrix, prog)?;
-    let text = lists_value(alloc, matrix, round, prog, programme)?;
+    let words = list_text(alloc, matrix, round, prog, programme)?;
+    let text = text_value(alloc, words.as_slice())?;
     Ok(json!(in alloc; {"programme": &code, "reply": "list", "round": round, "text": &text})?)
 }

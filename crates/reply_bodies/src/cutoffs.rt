@@ -1,8 +1,6 @@
 // The object of the cutoffs of a programme in a round.
 ghost use Rattle.std.specs.Prelude.{◌≡◌, ◌<◌, IfOk, length};
-ghost use Rattle.serde_json.specs.Data.{string};
 ghost use Rattle.serde_json.specs.View.{view};
-ghost use Rattle.reply_texts.specs.Replies.{cutoffs_text};
 ghost use Rattle.reply_bodies.specs.Bodies.{cutoffs_data};
 
 use crate::texts::{code_value, codes_are_ascii, text_value};
@@ -24,24 +22,9 @@ pub(crate) fn cutoffs_value(
     requires { prog.0 < length matrix.now.programmes }
     ensures { IfOk result (λ value. view value ≡ cutoffs_data matrix.now round prog.0 lines.now) }
 {
-    let code = code_value(alloc, matrix, prog)?;
-    let text = lines_value(alloc, matrix, round, prog, lines)?;
-    Ok(json!(in alloc; {"programme": &code, "reply": "cutoffs", "round": round, "text": &text})?)
-}
-
-/// Returns the text of cutoffs as a value.
-fn lines_value(
-    alloc: Global,
-    matrix: &Matrix,
-    round: u16,
-    prog: ProgId,
-    lines: &[StepCutoff],
-) -> Result<Value, OutOfMemory>
-    requires { prog.0 < length matrix.now.programmes }
-    ensures { IfOk result (λ value.
-        view value ≡ string (cutoffs_text matrix.now round prog.0 lines.now)) }
-{
     codes_are_ascii(matrix, prog);
-    let text = cutoffs_text(alloc, matrix, round, prog, lines)?;
-    text_value(alloc, text.as_slice())
+    let code = code_value(alloc, matrix, prog)?;
+    let words = cutoffs_text(alloc, matrix, round, prog, lines)?;
+    let text = text_value(alloc, words.as_slice())?;
+    Ok(json!(in alloc; {"programme": &code, "reply": "cutoffs", "round": round, "text": &text})?)
 }

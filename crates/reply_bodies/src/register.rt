@@ -1,12 +1,10 @@
 // The object of what the register has of a candidate.
 ghost use Rattle.std.specs.Prelude.{◌≡◌, IfOk};
-ghost use Rattle.serde_json.specs.Data.{string};
 ghost use Rattle.serde_json.specs.View.{view};
-ghost use Rattle.reply_texts.specs.Replies.{traits_word};
 ghost use Rattle.reply_bodies.specs.Bodies.{place_data, places_data, register_data};
 
 use crate::texts::text_value;
-use office_base::{OutOfMemory, Person, Place, Text, TraitSet};
+use office_base::{OutOfMemory, Person, Place, Text};
 use reply_texts::{category_name, push_place, push_traits};
 use serde_json::{Value, json};
 use std::alloc::Global;
@@ -16,21 +14,14 @@ pub(crate) fn register_value(alloc: Global, person: &Person) -> Result<Value, Ou
     ensures { IfOk result (λ value. view value ≡ register_data person.now) }
 {
     let places = places_value(alloc, &person.places)?;
-    let traits = traits_value(alloc, person.traits)?;
+    let mut word = Text::new(alloc);
+    push_traits(&mut word, person.traits)?;
+    let traits = text_value(alloc, word.as_slice())?;
     let cand = person.id.0;
     let category = category_name(person.category);
     Ok(
         json!(in alloc; {"cand": cand, "category": category, "places": &places, "reply": "register", "traits": &traits})?,
     )
-}
-
-/// Returns a set of traits as the register spells it.
-fn traits_value(alloc: Global, traits: TraitSet) -> Result<Value, OutOfMemory>
-    ensures { IfOk result (λ value. view value ≡ string (traits_word traits)) }
-{
-    let mut text = Text::new(alloc);
-    push_traits(&mut text, traits)?;
-    text_value(alloc, text.as_slice())
 }
 
 /// Returns the places in the merit lists.

@@ -1,8 +1,7 @@
 // The object of what was published under a number.
 ghost use Rattle.std.specs.Prelude.{◌≡◌, IfOk, option_copied};
-ghost use Rattle.serde_json.specs.Data.{string};
 ghost use Rattle.serde_json.specs.View.{view};
-ghost use Rattle.reply_texts.specs.Replies.{AreShownOf, shown_text};
+ghost use Rattle.reply_texts.specs.Replies.{AreShownOf};
 ghost use Rattle.reply_bodies.specs.Bodies.{round_data};
 
 use crate::texts::{all_codes_are_ascii, text_value};
@@ -27,24 +26,9 @@ pub(crate) fn round_value(
     ensures { IfOk result (λ value. view value ≡ round_data season.now.matrix
         season.now.register.people (option_copied round.entry) rows.now number) }
 {
-    let text = shown_value(alloc, season, round, rows)?;
-    Ok(json!(in alloc; {"reply": "round", "round": number, "text": &text})?)
-}
-
-/// Returns the text of the round or of the final admissions as a value.
-fn shown_value(
-    alloc: Global,
-    season: &Season,
-    round: Option<&Round>,
-    rows: &[AllotRow],
-) -> Result<Value, OutOfMemory>
-    requires { AreShownOf season.now.matrix season.now.register.people
-        (option_copied round) rows.now }
-    ensures { IfOk result (λ value. view value ≡ string (shown_text season.now.matrix
-        season.now.register.people (option_copied round.entry) rows.now)) }
-{
     let matrix = &season.matrix;
     all_codes_are_ascii(matrix);
-    let text = shown_text(alloc, matrix, season.register.people(), round, rows)?;
-    text_value(alloc, text.as_slice())
+    let words = shown_text(alloc, matrix, season.register.people(), round, rows)?;
+    let text = text_value(alloc, words.as_slice())?;
+    Ok(json!(in alloc; {"reply": "round", "round": number, "text": &text})?)
 }

@@ -78,7 +78,7 @@ fn put_noted(
         (out.new ≡ out.old ++ compact_text (noted_data cand.0 window turn choice)) }
 {
     put_count(out, b"{\"cand\":", cand.0)?;
-    put_word(out, b",\"choice\":", choice_name(choice))?;
+    put_quoted(out, b",\"choice\":", choice_name(choice).as_bytes())?;
     put_count(out, b",\"reply\":\"noted\",\"turn\":", u32::from(turn))?;
     put_count(out, b",\"window\":", u32::from(window))?;
     out.extend_from_slice(b"}")
@@ -100,7 +100,7 @@ fn put_seat(
     put_count(out, b"{\"cand\":", cand.0)?;
     put_programme(out, matrix, seat)?;
     put_count(out, b",\"reply\":\"seat\",\"round\":", u32::from(round))?;
-    put_word(out, b",\"standing\":", standing_name(standing))?;
+    put_quoted(out, b",\"standing\":", standing_name(standing).as_bytes())?;
     put_step(out, seat)?;
     out.extend_from_slice(b"}")
 }
@@ -137,7 +137,7 @@ fn put_step(out: &mut Text, seat: Option<Seat>) -> Result<(), OutOfMemory>
 {
     match seat {
         None => put_null(out, b",\"step\":"),
-        Some(seat) => put_word(out, b",\"step\":", step_name(seat.step)),
+        Some(seat) => put_quoted(out, b",\"step\":", step_name(seat.step).as_bytes()),
     }
 }
 
@@ -157,15 +157,7 @@ fn put_null(out: &mut Text, before: &[u8]) -> Result<(), OutOfMemory>
     out.extend_from_slice(b"null")
 }
 
-/// Puts some bytes and a word as a string. The word is spelled as a code is, so it needs no escape.
-fn put_word(out: &mut Text, before: &[u8], word: &str) -> Result<(), OutOfMemory>
-    requires { is_code word.now ≡ true }
-    ensures { OnOk result (out.new ≡ (out.old ++ before.now) ++ compact_text (string word.now)) }
-{
-    put_quoted(out, before, word.as_bytes())
-}
-
-/// Puts some bytes and a code as a string. The bytes of a code need no escape.
+/// Puts some bytes and a code as a string. The bytes of a code need no escape, and those of our words are spelled as codes are.
 fn put_quoted(out: &mut Text, before: &[u8], code: &[u8]) -> Result<(), OutOfMemory>
     requires { is_code code.now ≡ true }
     ensures { OnOk result (out.new ≡ (out.old ++ before.now) ++ compact_text (string code.now)) }
