@@ -14,7 +14,7 @@ use Rattle.command_answers.specs.declared.status.Status.{Status}
 use Rattle.command_answers.specs.declared.status.Status.TheVariants.{BadInput, OutOfMemory}
 use Rattle.command_answers.proofs.Ended.{all_left, told_is_written, status_is_told}
 use Rattle.audit_command.specs.Audit.{AreDossier, AreFaultyDossier, HaveOneAudit, audit_answers, status_of_audit, text_of_audit}
-use Rattle.audit_command.specs.Best.{HasBest, IsBestAnswerTo, IsBestAuditOutput, IsBestOf, IsBestText, TellsBest, best_answers}
+use Rattle.audit_command.specs.Best.{HasBest, IsBestAnswerTo, IsBestAuditOutput, IsBestOf, IsBestText, best_answers}
 use Rattle.audit_command.specs.declared.answer.Audited.{Audited}
 use Rattle.audit_command.specs.declared.answer.Audited.TheVariants.{Sound as SoundText, Broken as BrokenText}
 

@@ -65,13 +65,6 @@ best_answers = record { IsInput = AreDossier; IsFaulty = AreFaultyDossier; IsOut
 
 -- ---- the answer
 
--- the answer tells this second verdict by these lines
-abbrev pub TellsBest : BestVerdict → List ℕ → Audited → Type 0
-TellsBest Best lines (SoundText text) = text ≡ lines
-TellsBest Best lines (BrokenText text) = ⊥
-TellsBest (NotBest round cand) lines (SoundText text) = ⊥
-TellsBest (NotBest round cand) lines (BrokenText text) = text ≡ lines
-
 -- a clause of the dossier is broken, and this is the line of the first one
 abbrev pub HasBrokenLine : Dossier → List ℕ → Type 0
 HasBrokenLine dossier line = (round : ℕ) × (clause : Clause) × (prog : Option ProgId) × (cand : Option CandId) × HasLine dossier (Broken round clause prog cand) line

@@ -2,7 +2,7 @@
 ghost use Rattle.std.specs.Prelude.{IfOk};
 ghost use Rattle.command_answers.specs.Answers.{Reads};
 ghost use Rattle.office_base.specs.Visible.{source_of};
-ghost use Rattle.audit_command.specs.Audit.{IsAnswerTo, IsAuditOf, TellsDossierFault, TellsVerdict, audit_answers};
+ghost use Rattle.audit_command.specs.Audit.{IsAnswerTo, IsAuditOf, TellsDossierFault, audit_answers};
 
 use crate::texts::{dossier_text, verdict_text};
 use audit_rules::Verdict;
@@ -38,16 +38,9 @@ fn verdict_of(alloc: Global, dossier: &Dossier) -> Result<Audited, OutOfMemory>
 {
     let verdict = audit(alloc, dossier)?;
     let line = verdict_text(alloc, &dossier.season.matrix, verdict)?;
-    Ok(told(verdict, line))
-}
-
-/// Returns the answer that reports a verdict by its line.
-fn told(verdict: Verdict, line: Text) -> Audited
-    ensures { TellsVerdict verdict line result }
-{
     match verdict {
-        Verdict::Sound { .. } => Audited::Sound(line),
-        Verdict::Broken { .. } => Audited::Broken(line),
+        Verdict::Sound { .. } => Ok(Audited::Sound(line)),
+        Verdict::Broken { .. } => Ok(Audited::Broken(line)),
     }
 }
 

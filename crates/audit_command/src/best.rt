@@ -4,14 +4,14 @@ ghost use Rattle.audit_rules.specs.declared.verdict.Verdict.TheVariants.{Sound};
 ghost use Rattle.command_answers.specs.Answers.{Reads};
 ghost use Rattle.office_base.specs.Visible.{source_of};
 ghost use Rattle.audit_command.specs.Audit.{HasVerdict};
-ghost use Rattle.audit_command.specs.Best.{IsBestAnswerTo, IsBestOf, TellsBest, best_answers};
+ghost use Rattle.audit_command.specs.Best.{IsBestAnswerTo, IsBestOf, best_answers};
 
 use crate::answer::{Audited, dossier_failure};
 use crate::texts::{best_text, verdict_text};
 use audit_rules::Verdict;
 use command_answers::Failure;
 use dossier_file::Dossier;
-use office_base::{OutOfMemory, Source, Text};
+use office_base::{OutOfMemory, Source};
 use season_audit::{BestVerdict, audit, best_rounds};
 use std::alloc::Global;
 
@@ -47,15 +47,8 @@ fn second_of(alloc: Global, dossier: &Dossier, rounds: u16) -> Result<Audited, O
 {
     let verdict = best_rounds(alloc, dossier)?;
     let lines = best_text(alloc, rounds, verdict)?;
-    Ok(told(verdict, lines))
-}
-
-/// Returns the answer that tells a second verdict by its lines.
-fn told(verdict: BestVerdict, lines: Text) -> Audited
-    ensures { TellsBest verdict lines result }
-{
     match verdict {
-        BestVerdict::Best => Audited::Sound(lines),
-        BestVerdict::NotBest { .. } => Audited::Broken(lines),
+        BestVerdict::Best => Ok(Audited::Sound(lines)),
+        BestVerdict::NotBest { .. } => Ok(Audited::Broken(lines)),
     }
 }

@@ -1,7 +1,6 @@
 // The lines of an audit.
 ghost use Rattle.std.specs.Prelude.{◌≡◌, ◌++◌, IfOk, OnOk, codes};
 ghost use Rattle.std.specs.Fmt.{decimal};
-ghost use Rattle.season_audit.specs.declared.verdict.BestVerdict.TheVariants.{NotBest};
 ghost use Rattle.audit_command.specs.Best.{best_line};
 ghost use Rattle.audit_command.specs.Texts.{broken_line, candidate_or_dash, code_or_dash, dossier_line, published_line, sound_line, verdict_line};
 
@@ -24,7 +23,9 @@ pub(crate) fn verdict_text(
     ensures { IfOk result (λ text. text ≡ verdict_line matrix.now verdict) }
 {
     match verdict {
-        Verdict::Sound { rounds } => sound_text(alloc, rounds),
+        Verdict::Sound { rounds } => {
+            numbered_line(alloc, b"audit sound rounds ", u32::from(rounds))
+        }
         Verdict::Broken {
             round,
             clause,
@@ -32,13 +33,6 @@ pub(crate) fn verdict_text(
             cand,
         } => broken_text(alloc, matrix, round, clause, prog, cand),
     }
-}
-
-/// Returns the line of this many sound rounds.
-fn sound_text(alloc: Global, rounds: u16) -> Result<Text, OutOfMemory>
-    ensures { IfOk result (λ text. text ≡ sound_line rounds) }
-{
-    numbered_line(alloc, b"audit sound rounds ", u32::from(rounds))
 }
 
 /// Returns the lines of so many sound rounds and of a second verdict on them.
@@ -49,30 +43,25 @@ pub(crate) fn best_text(
 ) -> Result<Text, OutOfMemory>
     ensures { IfOk result (λ text. text ≡ sound_line rounds ++ best_line verdict) }
 {
-    let mut out = sound_text(alloc, rounds)?;
+    let mut out = numbered_line(alloc, b"audit sound rounds ", u32::from(rounds))?;
     push_best(&mut out, verdict)?;
     Ok(out)
 }
 
-/// Puts the line of a second verdict after a text.
+/// Puts the line of a second verdict after a text: the first round that is not the best one, if there is one.
 fn push_best(out: &mut Text, verdict: BestVerdict) -> Result<(), OutOfMemory>
     ensures { OnOk result (out.new ≡ out.old ++ best_line verdict) }
 {
     match verdict {
         BestVerdict::Best => out.extend_from_slice(b"best\n"),
-        BestVerdict::NotBest { round, cand } => push_not_best(out, round, cand),
+        BestVerdict::NotBest { round, cand } => {
+            out.extend_from_slice(b"not best round ")?;
+            push_number(out, u32::from(round))?;
+            out.extend_from_slice(b" ")?;
+            push_number(out, cand.0)?;
+            out.extend_from_slice(b"\n")
+        }
     }
-}
-
-/// Puts the line of the first round that is not the best one after a text.
-fn push_not_best(out: &mut Text, round: u16, cand: CandId) -> Result<(), OutOfMemory>
-    ensures { OnOk result (out.new ≡ out.old ++ best_line (NotBest round cand)) }
-{
-    out.extend_from_slice(b"not best round ")?;
-    push_number(out, u32::from(round))?;
-    out.extend_from_slice(b" ")?;
-    push_number(out, cand.0)?;
-    out.extend_from_slice(b"\n")
 }
 
 /// The line of a clause that is broken in a round, with the programme and the candidate whom it names.
