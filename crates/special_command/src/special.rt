@@ -1,13 +1,10 @@
 // The command `special`: an office resumes from what the keeper holds. Then the lists that the source gives are read,
 // and the special round over them is written.
-ghost use Rattle.std.specs.Prelude.{◌≡◌, ◌≢◌, ◌<◌, ◌≤◌, ◌⊎◌, ℕ, List, length, IfOk, IfErr, OnOk, IsErrOf};
+ghost use Rattle.std.specs.Prelude.{◌≡◌, ◌≢◌, ◌<◌, ◌≤◌, ◌⊎◌, length, IfOk, IfErr, OnOk, IsErrOf};
 ghost use Rattle.office_base.specs.Limits.{most_bundle_bytes};
 ghost use Rattle.office_base.specs.Outside.{Rose, IsAtEnd};
 ghost use Rattle.kept_rows.specs.Tables.{still};
-ghost use Rattle.office_moves.specs.Facts.{SeasonFacts};
-ghost use Rattle.office_moves.specs.State.{State};
 ghost use Rattle.special_round.specs.Special.{IsSpecial};
-ghost use Rattle.special_command.specs.Texts.{special_text};
 ghost use Rattle.command_answers.specs.Answers.{HasLeft, IsFailureOf, IsInputFailure, Tells, TellsLine};
 ghost use Rattle.command_answers.specs.Ends.{BlamesStreams};
 ghost use Rattle.command_answers.specs.Writes.{WritesFor};
@@ -123,7 +120,11 @@ fn lists_answer<P: Keeper>(alloc: Global, office: &Office<P>, lists: &[u8]) -> R
         (IsInputFailure (special_answers office.now.season office.now.state) lists.now) }
 {
     match round_of::<Brand, P>(alloc, office, lists, Blank::new(1)) {
-        Ok(special) => Ok(shown(alloc, &special)?),
+        Ok(special) => {
+            says_what_is_sound(&special.season);
+            special_rounds_can_be_shown();
+            Ok(special_text(alloc, &special)?)
+        }
         Err(fault) => Err(lists_failure(alloc, fault)),
     }
 }
@@ -145,17 +146,6 @@ fn round_of<L: Ledger, P: Keeper>(
     special(alloc, office, lists, &mut steps)
 }
 
-/// Returns the text of a special round of some office.
-fn shown(alloc: Global, special: &Special) -> Result<Text, OutOfMemory>
-    requires { (facts : SeasonFacts) × (state : State) × (body : List ℕ)
-        × IsSpecial facts state body special.now }
-    ensures { IfOk result (λ text. text ≡ special_text special.now) }
-{
-    says_what_is_sound(&special.season);
-    special_rounds_can_be_shown();
-    special_text(alloc, special)
-}
-
 /// Returns the failure that reports why there is no special round.
 fn lists_failure(alloc: Global, fault: SpecialFault) -> Failure
     ensures { IsToldFault fault result }
@@ -173,17 +163,9 @@ fn lists_failure(alloc: Global, fault: SpecialFault) -> Failure
 fn too_long(alloc: Global) -> Failure
     ensures { TellsLine too_long_line result }
 {
-    match too_long_text(alloc) {
-        Ok(line) => Failure::Bad(line),
+    let mut line = Text::new(alloc);
+    match line.extend_from_slice(b"fault: special TooLong\n") {
+        Ok(()) => Failure::Bad(line),
         Err(OutOfMemory) => Failure::NoMemory,
     }
-}
-
-/// Returns the line that reports too many bytes of lists.
-fn too_long_text(alloc: Global) -> Result<Text, OutOfMemory>
-    ensures { IfOk result (λ text. text ≡ too_long_line) }
-{
-    let mut line = Text::new(alloc);
-    line.extend_from_slice(b"fault: special TooLong\n")?;
-    Ok(line)
 }

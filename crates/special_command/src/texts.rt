@@ -1,8 +1,6 @@
 // The texts of a special round.
-ghost use Rattle.std.specs.Prelude.{◌≡◌, ◌++◌, IfOk, OnOk, codes};
+ghost use Rattle.std.specs.Prelude.{◌≡◌, ◌++◌, IfOk, OnOk};
 ghost use Rattle.std.specs.Fmt.{decimal};
-ghost use Rattle.office_base.specs.FaultLines.{memory_line};
-ghost use Rattle.season_texts.specs.Texts.{row_line};
 ghost use Rattle.special_command.specs.Texts.{CanBeShown, special_fault_line, special_line, special_text};
 
 use choice_lists::ChoiceFault;
@@ -58,25 +56,6 @@ fn numbered_line(
     Ok(out)
 }
 
-/// The line that tells want of memory.
-fn memory_text(alloc: Global) -> Result<Text, OutOfMemory>
-    ensures { IfOk result (λ text. text ≡ memory_line) }
-{
-    let mut out = Text::new(alloc);
-    out.extend_from_slice(b"fault: memory\n")?;
-    Ok(out)
-}
-
-/// The line of a fault at a row of the lists, counted from 1 with the header.
-fn choice_line(alloc: Global, row: u32, kind: &str) -> Result<Text, OutOfMemory>
-    ensures { IfOk result (λ text. text ≡ row_line (codes "choices") row kind.now) }
-{
-    let mut out = numbered_line(alloc, b"fault: choices row ", row, b" ")?;
-    out.extend_from_slice(kind.as_bytes())?;
-    out.extend_from_slice(b"\n")?;
-    Ok(out)
-}
-
 /// The line that tells why there is no special round.
 pub fn special_fault_text(alloc: Global, fault: SpecialFault) -> Result<Text, OutOfMemory>
     ensures { IfOk result (λ text. text ≡ special_fault_line fault) }
@@ -89,13 +68,18 @@ pub fn special_fault_text(alloc: Global, fault: SpecialFault) -> Result<Text, Ou
             b"\n",
         ),
         SpecialFault::Lists(ChoiceFault::Bad { row, kind }) => {
-            choice_line(alloc, row, kind.name())
+            let mut out = numbered_line(alloc, b"fault: choices row ", row, b" ")?;
+            out.extend_from_slice(kind.name().as_bytes())?;
+            out.extend_from_slice(b"\n")?;
+            Ok(out)
         }
         SpecialFault::Admitted { row } => {
             numbered_line(alloc, b"fault: special row ", row, b" Admitted\n")
         }
         SpecialFault::Lists(ChoiceFault::OutOfMemory) | SpecialFault::OutOfMemory => {
-            memory_text(alloc)
+            let mut out = Text::new(alloc);
+            out.extend_from_slice(b"fault: memory\n")?;
+            Ok(out)
         }
     }
 }

@@ -4,3 +4,6 @@ use Rattle.special_command.proofs.special.lists_answer.Goals as goal
 pub returns-in-Err-clause-failure : goal.returns-in-Err-clause-failure
 returns-in-Err-clause-failure g c =
     fault_failed c.args.office.now.season c.args.office.now.state c.args.lists.now c.in-Err.fault c.lists_failure.result c.requires c.in-Err.ensures.fault c.lists_failure.ensures
+
+pub special_text-requires : goal.special_text-requires
+special_text-requires g c = c.special_rounds_can_be_shown.ensures _ _ _ _ c.in-Ok.special c.says_what_is_sound.ensures c.in-Ok.ensures.special.2
