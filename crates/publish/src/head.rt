@@ -1,7 +1,7 @@
 // The first line of a text of rows.
 ghost use Rattle.std.specs.Prelude.{◌≡◌, ◌≢◌, ◌<◌, ◌^◌, ℕ, IfNone, IfSome, IsTrue, ◌↔◌};
 ghost use Rattle.text_readers.specs.Reading.{HasNo};
-ghost use Rattle.publish.specs.Pieces.{BeginsHead, BeginsSeated, IsRoundNumber};
+ghost use Rattle.publish.specs.Pieces.{BeginsHead, BeginsSeated};
 ghost use Rattle.publish.specs.Rows.{IsNumber, head_words};
 
 use crate::sort::Sort;
@@ -74,18 +74,10 @@ pub(crate) fn begins_head(sort: Sort, known: u16, most: u32, piece: &[u8]) -> bo
 {
     match sort {
         Sort::Round => begins_round_head(most, piece),
-        Sort::Final => begins_final_head(most, piece),
-    }
-}
-
-/// Returns whether a piece of a line begins the first line of final admissions, with a count up to this one.
-fn begins_final_head(most: u32, piece: &[u8]) -> bool
-    requires { HasNo 10 piece.now }
-    ensures { (known : ℕ) → IsTrue result ↔ BeginsHead Sort.Final known most piece.now }
-{
-    match left_after(piece, b"final ") {
-        Some(rest) => begins_number(most, rest),
-        None => false,
+        Sort::Final => match left_after(piece, b"final ") {
+            Some(rest) => begins_number(most, rest),
+            None => false,
+        },
     }
 }
 
@@ -94,21 +86,16 @@ fn begins_round_head(most: u32, piece: &[u8]) -> bool
     requires { HasNo 10 piece.now }
     ensures { (known : ℕ) → IsTrue result ↔ BeginsHead Sort.Round known most piece.now }
 {
+    numbers_are_inverse();
     match left_after(piece, b"round ") {
         Some(rest) => match split_at_byte(rest, b' ') {
-            Some((number, rest)) => is_round(number) && begins_seated(most, rest),
+            Some((number, rest)) => {
+                read_number(number, 0, 65_535).is_some() && begins_seated(most, rest)
+            }
             None => begins_number(65_535, rest),
         },
         None => false,
     }
-}
-
-/// Returns whether a text is the number of a round.
-fn is_round(text: &[u8]) -> bool
-    ensures { IsTrue result ↔ IsRoundNumber text.now }
-{
-    numbers_are_inverse();
-    read_number(text, 0, 65_535).is_some()
 }
 
 /// Returns whether a piece of a line begins the count of a round, with what comes before the count.

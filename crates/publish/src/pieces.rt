@@ -1,11 +1,9 @@
 // What a piece of a line, whose end is missing, may begin.
-ghost use Rattle.std.specs.Prelude.{◌≡◌, ◌<◌, ◌++◌, ◌∷◌, [], IsTrue, ◌↔◌, length};
-ghost use Rattle.step_lines.specs.Lines.{step_name};
-ghost use Rattle.text_readers.specs.Parts.{is_prefix};
+ghost use Rattle.std.specs.Prelude.{◌<◌, IsTrue, ◌↔◌, length};
 ghost use Rattle.publish.specs.Pieces.{BeginsCode, BeginsRow, BeginsRows, BeginsSeat, BeginsStep};
 
 use itoa::Buffer;
-use office_base::{ALL_STEPS, CandId, Person, ProgId, StepKind};
+use office_base::{ALL_STEPS, CandId, Person, ProgId};
 use seat_matrix::Matrix;
 use step_lines::step_name;
 use text_readers::{begins_whole, left_after};
@@ -15,18 +13,11 @@ fn begins_step(piece: &[u8]) -> bool
     ensures { IsTrue result ↔ BeginsStep piece.now }
 {
     for step in ALL_STEPS {
-        if begins_name(piece, step) {
+        if begins_whole(piece, step_name(step).as_bytes()) {
             return true;
         }
     }
     false
-}
-
-/// Returns whether a piece begins the name of this step with the end of the line.
-fn begins_name(piece: &[u8], step: StepKind) -> bool
-    ensures { result ≡ is_prefix piece.now (step_name step ++ 10 ∷ []) }
-{
-    begins_whole(piece, step_name(step).as_bytes())
 }
 
 /// Returns whether a piece begins the code of this programme with a step.

@@ -142,15 +142,6 @@ fn begins_next(matrix: &Matrix, people: &[Person], sort: Sort, left: usize, piec
     }
 }
 
-/// Returns whether a piece of a line begins the first line.
-fn begins_first(matrix: &Matrix, people: &[Person], sort: Sort, known: u16, piece: &[u8]) -> bool
-    requires few { length people.now < 2 ^ 31 }
-    requires piece { HasNo 10 piece.now }
-    ensures { IsTrue result ↔ Begins (IsRowsText sort matrix.now people.now known) piece.now }
-{
-    begins_head(sort, known, most_rows(matrix, people), piece)
-}
-
 impl RowsReader<'_> {
     /// Takes the first line.
     fn take_head(&mut self, line: &[u8]) -> bool
@@ -250,7 +241,10 @@ impl LineReader for RowsReader<'_> {
 
     fn begins(&self, piece: &[u8]) -> bool {
         match self.stage {
-            Stage::Head => { begins_first(self.matrix, self.people, self.sort, self.number, piece) }
+            Stage::Head => {
+                let most = most_rows(self.matrix, self.people);
+                begins_head(self.sort, self.number, most, piece)
+            }
             Stage::Rows => { begins_next(self.matrix, self.people, self.sort, self.left, piece) }
             Stage::Done => false,
         }

@@ -1,8 +1,8 @@
-use Rattle.std.proofs.Common.{◌↔◌, IsTrue, arith, rules, sym, subst}
+use Rattle.std.proofs.Common.{◌<◌, ◌^◌, ◌↔◌, IsTrue, arith, length, rules, sym, subst}
 use Rattle.std.proofs.lemmas.Bool.{false≢true}
 use Rattle.text_readers.specs.Reading.{Begins, EndsWithLines}
 use Rattle.publish.specs.Reader.{grammar_at}
-use Rattle.publish.proofs.HeadLemmas.{head-lines}
+use Rattle.publish.proofs.HeadLemmas.{begins-head, head-begins, head-lines}
 use Rattle.publish.proofs.RowsLemmas.{end-lines, rest-lines}
 use Rattle.publish.proofs.StageLemmas.{done-begins}
 use Rattle.publish.proofs.rows.RowsReaderLineReader.begins.Goals as goal
@@ -10,7 +10,12 @@ use Rattle.publish.proofs.rows.RowsReaderLineReader.begins.Goals as goal
 pub returns-in-Head-clause-value : goal.returns-in-Head-clause-value
 returns-in-Head-clause-value c =
     let s = c.args.self.now in
-    subst (λ st. IsTrue c.begins_first.result ↔ Begins (grammar_at st s) c.args.piece.now) (sym c.in-Head.is) c.begins_first.ensures
+    let known : s.number < 2 ^ 16 = search rules in
+    let few : length s.people.now < 2 ^ 32 = omega (arith, c.requires.keeps.few) in
+    subst (λ st. IsTrue c.begins_head.result ↔ Begins (grammar_at st s) c.args.piece.now) (sym c.in-Head.is) (
+      λ read. head-begins s.sort s.matrix.now s.people.now s.number known few c.most_rows-most.result c.args.piece.now c.most_rows-most.ensures.few (c.begins_head.ensures.0 read),
+      λ begins. c.begins_head.ensures.1 (begins-head s.sort s.matrix.now s.people.now s.number known few c.most_rows-most.result c.args.piece.now c.most_rows-most.ensures.all c.requires.line begins),
+    )
 
 pub returns-in-Head-clause-ends : goal.returns-in-Head-clause-ends
 returns-in-Head-clause-ends c =
