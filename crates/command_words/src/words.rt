@@ -309,18 +309,10 @@ fn read_store(alloc: Global, name: &str, word: &str) -> Result<Command, WordsFau
         "resume" => Ok(Command::Resume(store_of(alloc, word)?)),
         "units" => Ok(Command::Units(store_of(alloc, word)?)),
         "special" => Ok(Command::Special(store_of(alloc, word)?)),
-        "audit" => read_audit(word),
-        _ => Err(WordsFault::Usage),
-    }
-}
-
-/// Returns the command `audit` with this second word.
-fn read_audit(word: &str) -> Result<Command, WordsFault>
-    ensures command { IfOk result (Spell (codes "audit" ∷ word.now ∷ [])) }
-    ensures none { IsErrOf result WordsFault.Usage → SpellNothing (codes "audit" ∷ word.now ∷ []) }
-{
-    match word {
-        "best" => Ok(Command::AuditBest),
+        "audit" => match word {
+            "best" => Ok(Command::AuditBest),
+            _ => Err(WordsFault::Usage),
+        },
         _ => Err(WordsFault::Usage),
     }
 }
