@@ -2,24 +2,21 @@
 ghost use Rattle.std.specs.Prelude.{◌≡◌, ◌≤◌, length, IfOk, IfErr, IsErrOf};
 ghost use Rattle.office_base.specs.Limits.{most_bundle_bytes};
 ghost use Rattle.office_base.specs.Outside.{Fails, IsAtEnd, Took};
-ghost use Rattle.text_readers.specs.Parts.{AreSpelled};
 ghost use Rattle.text_readers.specs.Reading.{IsTextFault};
 ghost use Rattle.dossier_file.specs.Dossier.{IsRequestsError, IsScript, IsUnread, papers_error, season_error};
 ghost use Rattle.dossier_file.specs.Papers.{AreDuePapers};
-ghost use Rattle.dossier_file.specs.Texts.{AreReadable};
 
 use crate::due::{accepted_cuts, due_texts};
 use crate::fault::DossierFault;
 use crate::papers::Papers;
 use crate::texts::take_all;
 use office_base::limits::MOST_BUNDLE_BYTES;
-use office_base::{ProgId, ReadFault, Request, Source, Text, read_whole};
+use office_base::{ReadFault, Request, Source, Text, read_whole};
 use publish::TextFault;
-use rank_lists::Register;
 use request_rows::{Script, ScriptFault, read_script};
 use season_file::{Season, SeasonFault};
-use seat_matrix::Matrix;
 use std::alloc::Global;
+use text_readers::codes_are_spelled;
 
 /// The bytes that a source gives up to its end.
 pub(crate) fn read_bytes<S: Source>(alloc: Global, source: &mut S) -> Result<Text, DossierFault>
@@ -73,25 +70,6 @@ pub(crate) fn read_requests(alloc: Global, body: &[u8]) -> Result<Script, Season
     }
 }
 
-/// All codes of a matrix are spelled as codes are.
-fn codes_are_spelled(matrix: &Matrix)
-    ensures { AreSpelled matrix.now }
-{
-    for prog in 0..matrix.count() {
-        let code = matrix.code(ProgId(prog));
-        let _ = code.bytes();
-    }
-}
-
-/// The codes of a matrix and the people of a register are such that texts of them can be read.
-fn are_readable(matrix: &Matrix, register: &Register)
-    ensures { AreReadable matrix.now register.now.people }
-{
-    codes_are_spelled(matrix);
-    let _ = matrix.count();
-    let _ = register.people();
-}
-
 /// The texts that the requests of a season publish, or the line of their fault.
 pub(crate) fn read_papers(
     alloc: Global,
@@ -105,8 +83,11 @@ pub(crate) fn read_papers(
     ensures fault { IfErr result (λ fault. IsTextFault (AreDuePapers season.now.matrix
         season.now.register.people season.now.rounds script.now) published.now fault) }
 {
-    are_readable(&season.matrix, &season.register);
+    // These calls show that texts of the codes of the matrix and of the people of the register can be read.
+    codes_are_spelled(&season.matrix);
+    let programmes = season.matrix.count();
+    let _ = season.register.people();
     let cuts = accepted_cuts(season.rounds, script);
-    let dues = due_texts(alloc, season.rounds, season.matrix.count(), cuts)?;
+    let dues = due_texts(alloc, season.rounds, programmes, cuts)?;
     take_all(alloc, season, dues.as_slice(), published)
 }
