@@ -1,5 +1,5 @@
 -- Whether rows are the final ones.
-use Rattle.std.proofs.Common.{◌≡◌, ◌<◌, ◌≤◌, ◌+◌, ℕ, List, [], ◌∷◌, ◌++◌, Option, Some, None, length, take, drop, get_or, arith, refl, sym, ap, ◌∙◌, subst, append-nil, append_assoc}
+use Rattle.std.proofs.Common.{◌≡◌, ◌<◌, ◌≤◌, ◌+◌, ℕ, List, [], ◌∷◌, ◌++◌, Option, Some, None, length, take, drop, get_or, arith, refl, sym, ap, ◌∙◌, append-nil, append_assoc}
 use Rattle.std.specs.Prelude.{slice_get}
 use Rattle.std.proofs.lemmas.List.{take-append-drop, take_more, length-take-le}
 use Rattle.std.proofs.lemmas.Option.{get_or_from_slice_get, slice_get_within}
@@ -8,7 +8,6 @@ use Rattle.office_base.specs.declared.person.CandId.{CandId}
 use Rattle.office_base.specs.declared.person.Person.{Person}
 use Rattle.kept_rows.specs.declared.rows.AllotRow.{AllotRow}
 use Rattle.office_moves.specs.Moves.{row_before, rows_along}
-use Rattle.audit_rules.specs.Finals.{GoesOn, rows_of}
 
 -- the row of a seat, where there is one
 abbrev one_row : ℕ → CandId → Option Seat → List AllotRow
@@ -45,22 +44,24 @@ ends_without number seat people rows k next d h less none = record {
 }
 
 -- one with a seat, whose row is the next
-pub ends_with : (number : ℕ) (seat : ℕ → Option Seat) (people : List Person) (rows : List AllotRow) (k next : ℕ) (d : Person) (held : Seat) (e : AllotRow) → Ends number seat people rows k next → k < length people
-    → seat (get_or people k d).id.0 ≡ Some held → next < length rows
-    → get_or rows next e ≡ record { round = number; cand = (get_or people k d).id; prog = held.prog; step = held.step } → Ends number seat people rows (k + 1) (next + 1)
-ends_with number seat people rows k next d held e h less some inside row = record {
-  same = take_more rows next e inside ∙ (ap (λ (z : List AllotRow). z ++ get_or rows next e ∷ []) h.same
-      ∙ (ap (λ (z : AllotRow). rows_along number seat (take k people) ++ z ∷ []) row
-      ∙ (ap (λ (o : Option Seat). rows_along number seat (take k people) ++ one_row number (get_or people k d).id o) (sym some) ∙ sym (next_people number seat people k d less))));
-  within = omega (arith, inside);
-}
+pub ends_with : (number : ℕ) (seat : ℕ → Option Seat) (people : List Person) (rows : List AllotRow) (k next : ℕ) (d : Person) (held : Seat) → Ends number seat people rows k next → k < length people
+    → seat (get_or people k d).id.0 ≡ Some held → slice_get rows next ≡ Some (record { round = number; cand = (get_or people k d).id; prog = held.prog; step = held.step }) → Ends number seat people rows (k + 1) (next + 1)
+ends_with number seat people rows k next d held h less some on =
+    let row : AllotRow = record { round = number; cand = (get_or people k d).id; prog = held.prog; step = held.step } in
+    let inside = slice_get_within rows next row on in
+    record {
+      same = take_more rows next row inside ∙ (ap (λ (z : List AllotRow). z ++ get_or rows next row ∷ []) h.same
+          ∙ (ap (λ (z : AllotRow). rows_along number seat (take k people) ++ z ∷ []) (get_or_from_slice_get rows next row row on)
+          ∙ (ap (λ (o : Option Seat). rows_along number seat (take k people) ++ one_row number (get_or people k d).id o) (sym some) ∙ sym (next_people number seat people k d less))));
+      within = omega (arith, inside);
+    }
 
 after_all : {X : Type 0} (xs : List X) (y : X) (ys : List X) → slice_get (xs ++ y ∷ ys) (length xs) ≡ Some y
 after_all [] y ys = refl
 after_all (x ∷ xs) y ys = after_all xs y ys
 
 -- the row that has to be the next one
-must_be : (number : ℕ) (seat : ℕ → Option Seat) (people : List Person) (rows : List AllotRow) (k next : ℕ) (d : Person) (held : Seat) → Ends number seat people rows k next → k < length people
+pub must_be : (number : ℕ) (seat : ℕ → Option Seat) (people : List Person) (rows : List AllotRow) (k next : ℕ) (d : Person) (held : Seat) → Ends number seat people rows k next → k < length people
     → seat (get_or people k d).id.0 ≡ Some held → rows ≡ rows_along number seat people
     → slice_get rows next ≡ Some (record { round = number; cand = (get_or people k d).id; prog = held.prog; step = held.step })
 must_be number seat people rows k next d held h less some all =
@@ -72,18 +73,3 @@ must_be number seat people rows k next d held h less some all =
     ∙ ap (λ (z : List AllotRow). z ++ back) (next_people number seat people k d less ∙ ap (λ (o : Option Seat). front ++ one_row number (get_or people k d).id o) some)) in
     let size : length front ≡ next = ap length (sym h.same) ∙ length-take-le next rows h.within in
     ap (λ (z : List AllotRow). slice_get z next) (all ∙ (whole ∙ append_assoc front (row ∷ []) back)) ∙ (ap (slice_get (front ++ row ∷ back)) (sym size) ∙ after_all front row back)
-
--- the rows go on with the row of each seat
-pub goes_on : (number : ℕ) (seat : ℕ → Option Seat) (people : List Person) (rows : List AllotRow) (k next : ℕ) (d : Person) (held : Option Seat) → Ends number seat people rows k next → k < length people
-    → held ≡ seat (get_or people k d).id.0 → GoesOn rows next number (get_or people k d).id held → Ends number seat people rows (k + 1) (next + rows_of held)
-goes_on number seat people rows k next d None h less same on =
-    subst (Ends number seat people rows (k + 1)) (let e : next ≡ next + 0 = omega arith in e) (ends_without number seat people rows k next d h less (sym same))
-goes_on number seat people rows k next d (Some held) h less same on =
-    let row : AllotRow = record { round = number; cand = (get_or people k d).id; prog = held.prog; step = held.step } in
-    ends_with number seat people rows k next d held row h less (sym same) (slice_get_within rows next row on) (get_or_from_slice_get rows next row row on)
-
--- and must where they are right
-pub must_go_on : (number : ℕ) (seat : ℕ → Option Seat) (people : List Person) (rows : List AllotRow) (k next : ℕ) (d : Person) (held : Option Seat) → Ends number seat people rows k next → k < length people
-    → held ≡ seat (get_or people k d).id.0 → rows ≡ rows_along number seat people → GoesOn rows next number (get_or people k d).id held
-must_go_on number seat people rows k next d None h less same all = tt
-must_go_on number seat people rows k next d (Some held) h less same all = must_be number seat people rows k next d held h less (sym same) all

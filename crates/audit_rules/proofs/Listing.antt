@@ -25,7 +25,7 @@ use Rattle.audit_rules.specs.Papers.{rows_after, seat_told, seats_told}
 use Rattle.audit_rules.proofs.Agreeing.{named_by_id, somebody_named}
 use Rattle.audit_rules.specs.AtCut.{IsAtCut, Setting}
 use Rattle.audit_rules.specs.Comes.{AllListed, AreLists, HoldOn, told_by}
-use Rattle.audit_rules.specs.Entries.{AreMarked, IsFirstMiss, IsMiss, entries_from, of_kind, of_kinds, of_programme, of_step}
+use Rattle.audit_rules.specs.Entries.{AreMarked, AreMarking, IsFirstMiss, IsMiss, IsWrong, entries_from, of_kind, of_kinds, of_programme, of_step}
 use Rattle.audit_rules.specs.declared.entries.Entry.{Entry}
 use Rattle.audit_rules.specs.declared.stand.Stand.{Stand}
 use Rattle.seat_matrix.specs.Matrix.{SeatTable}
@@ -192,16 +192,16 @@ bool_at (false ∷ marks) zero less = inr refl
 bool_at (b ∷ marks) (suc k) less = bool_at marks k (omega (arith, less))
 
 -- the walk of a cut
-pub walk_is : (facts : SeasonFacts) (at : Setting) (matrix : SeatTable) (all : List Stand) (seats : List (Option Seat)) (lists : List ListRead) (marks : List Bool) (first : Option Miss)
-    → IsAtCut facts at matrix all seats → AreLists facts at lists → HoldOn facts at → AreMarked facts.people seats (all_of lists) marks
-    → IsFirstMiss (IsMiss facts.people seats (all_of lists) marks (length lists) (length seats)) first → Walked facts at seats lists marks first
-walk_is facts at matrix all seats lists marks first c are hold marked least = record {
+pub walk_is : (facts : SeasonFacts) (at : Setting) (matrix : SeatTable) (all : List Stand) (seats : List (Option Seat)) (lists : List ListRead) (entries : List Entry) (new marks : List Bool) (wrong first : Option Miss)
+    → IsAtCut facts at matrix all seats → AreLists facts at lists → HoldOn facts at → entries ≡ all_of lists → AreMarking facts.people seats entries new wrong → marks ≡ new
+    → (IsFirstMiss (IsWrong facts.people seats entries) wrong → IsFirstMiss (IsMiss facts.people seats entries marks (length lists) (length seats)) first) → Walked facts at seats lists marks first
+walk_is facts at matrix all seats lists entries new marks wrong first c are hold same marking made least = record {
   sound = c.sound;
   seats_are = c.seats_are;
   lists_are = are;
   hold = hold;
-  marked = marked;
-  least = least;
+  marked = subst (λ (z : List Entry). AreMarked facts.people seats z marks) same (subst (AreMarked facts.people seats entries) (sym made) marking.marked);
+  least = subst (λ (z : List Entry). IsFirstMiss (IsMiss facts.people seats z marks (length lists) (length seats)) first) same (least marking.wrong);
 }
 
 -- on a candidate who is no miss, the lists and the round's text agree

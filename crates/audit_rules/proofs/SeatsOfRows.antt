@@ -1,5 +1,6 @@
 -- The seats that rows give, with a row more.
 use Rattle.std.proofs.Common.{◌≡◌, ◌<◌, inl, inr, ℕ, zero, suc, Bool, true, false, List, [], ◌∷◌, ◌++◌, Option, Some, None, length, get_or, slice_set, arith, refl, sym, ap, ◌∙◌, ◌==◌, if◌then◌else◌}
+use Rattle.std.specs.Option.{option_or}
 use Rattle.std.specs.Prelude.{option_map, replicate, slice_get}
 use Rattle.std.proofs.lemmas.Bool.{cases_Bool, cond-false, cond-true, eq-eqb, eqb-true}
 use Rattle.std.proofs.lemmas.Option.{get_or_from_slice_get, slice_get-map}
@@ -10,7 +11,6 @@ use Rattle.rank_lists.specs.Register.{row_of}
 use Rattle.rank_lists.proofs.Known.{row_cases, none_when}
 pub use Rattle.rank_lists.proofs.Known.{known}
 use Rattle.audit_rules.specs.Papers.{seat_told, seats_told}
-use Rattle.audit_rules.specs.Stands.{or_seat}
 use Rattle.audit_rules.proofs.RegisterLists.{AreRising, same_map, set_along}
 
 -- ---- the place of an id
@@ -35,14 +35,14 @@ nobody id (p ∷ people) e (suc i) person there same = nobody id people (none_wh
 
 -- ---- a row more
 
-told_if : (b : Bool) (seat : Seat) (rest other : Option Seat) → (if b then Some seat else or_seat rest other) ≡ or_seat (if b then Some seat else rest) other
+told_if : (b : Bool) (seat : Seat) (rest other : Option Seat) → (if b then Some seat else option_or rest other) ≡ option_or (if b then Some seat else rest) other
 told_if true seat rest other = refl
 told_if false seat rest other = refl
 
 abbrev seat_in : AllotRow → Seat
 seat_in row = record { prog = row.prog; step = row.step }
 
-told_append : (rows : List AllotRow) (row : AllotRow) (id : ℕ) → seat_told (rows ++ row ∷ []) id ≡ or_seat (seat_told rows id) (seat_told (row ∷ []) id)
+told_append : (rows : List AllotRow) (row : AllotRow) (id : ℕ) → seat_told (rows ++ row ∷ []) id ≡ option_or (seat_told rows id) (seat_told (row ∷ []) id)
 told_append [] row id = refl
 told_append (first ∷ rows) row id =
     ap (λ (z : Option Seat). if first.cand.0 == id then Some (seat_in first) else z) (told_append rows row id) ∙ told_if (first.cand.0 == id) (seat_in first) (seat_told rows id) (seat_told (row ∷ []) id)
@@ -53,12 +53,12 @@ told_own row id e = cond-true (row.cand.0 == id) (Some (seat_in row)) None (eq-e
 told_none : (row : AllotRow) (id : ℕ) → (id ≡ row.cand.0 → ⊥) → seat_told (row ∷ []) id ≡ None
 told_none row id other = elim (cases_Bool (row.cand.0 == id)) [ inl e ↦ absurd (other (sym (eqb-true row.cand.0 id e))) | inr e ↦ cond-false (row.cand.0 == id) (Some (seat_in row)) None e ]
 
-none_more : (o : Option Seat) → or_seat o None ≡ o
+none_more : (o : Option Seat) → option_or o None ≡ o
 none_more None = refl
 none_more (Some seat) = refl
 
 told_other : (rows : List AllotRow) (row : AllotRow) (id : ℕ) → (id ≡ row.cand.0 → ⊥) → seat_told (rows ++ row ∷ []) id ≡ seat_told rows id
-told_other rows row id other = told_append rows row id ∙ (ap (or_seat (seat_told rows id)) (told_none row id other) ∙ none_more (seat_told rows id))
+told_other rows row id other = told_append rows row id ∙ (ap (option_or (seat_told rows id)) (told_none row id other) ∙ none_more (seat_told rows id))
 
 -- a row of nobody gives no seat
 pub told_unknown : (rows : List AllotRow) (row : AllotRow) (people : List Person) → row_of row.cand.0 people ≡ None → seats_told rows people ≡ seats_told (rows ++ row ∷ []) people
@@ -68,15 +68,15 @@ told_unknown rows row people none =
 
 -- one of somebody gives a seat, where there is none
 pub told_put : (rows : List AllotRow) (row : AllotRow) (people : List Person) (at : ℕ) (d : Option Seat) → AreRising people → row_of row.cand.0 people ≡ Some at → at < length people
-    → slice_set (seats_told rows people) at (or_seat (get_or (seats_told rows people) at d) (Some (record { prog = row.prog; step = row.step }))) ≡ seats_told (rows ++ row ∷ []) people
+    → slice_set (seats_told rows people) at (option_or (get_or (seats_told rows people) at d) (Some (record { prog = row.prog; step = row.step }))) ≡ seats_told (rows ++ row ∷ []) people
 told_put rows row people at d rising place less =
     let who = stands row.cand.0 people at place in
     let here : slice_get (seats_told rows people) at ≡ Some (seat_told rows who.0.id.0) =
     slice_get-map (λ (p : Person). seat_told rows p.id.0) people at ∙ ap (λ (o : Option Person). option_map (λ (p : Person). seat_told rows p.id.0) o) who.1 in
     let mine : get_or (seats_told rows people) at d ≡ seat_told rows who.0.id.0 = get_or_from_slice_get (seats_told rows people) at (seat_told rows who.0.id.0) d here in
-    let new : or_seat (get_or (seats_told rows people) at d) (Some (seat_in row)) ≡ seat_told (rows ++ row ∷ []) who.0.id.0 =
-    ap (λ (z : Option Seat). or_seat z (Some (seat_in row))) mine
-    ∙ (ap (or_seat (seat_told rows who.0.id.0)) (sym (told_own row who.0.id.0 (sym who.2))) ∙ sym (told_append rows row who.0.id.0)) in
+    let new : option_or (get_or (seats_told rows people) at d) (Some (seat_in row)) ≡ seat_told (rows ++ row ∷ []) who.0.id.0 =
+    ap (λ (z : Option Seat). option_or z (Some (seat_in row))) mine
+    ∙ (ap (option_or (seat_told rows who.0.id.0)) (sym (told_own row who.0.id.0 (sym who.2))) ∙ sym (told_append rows row who.0.id.0)) in
     ap (slice_set (seats_told rows people) at) new
     ∙ set_along (λ (p : Person). seat_told rows p.id.0) (λ (p : Person). seat_told (rows ++ row ∷ []) p.id.0) people at who.0 rising who.1
     (λ p other. told_other rows row p.id.0 (λ same. other (same ∙ sym who.2)))

@@ -165,10 +165,6 @@ is_unsought facts at matrix all seats k d s e list prog c less own fails some be
 abbrev pub nobody_there : Person
 nobody_there = record { id = record { 0 = 0 }; category = Gen; traits = record { 0 = 0 }; places = [] }
 
-pub not_fallen : (fell keeps some : Bool) → (fell ≡ true) ↔ ((keeps ≡ true) × (some ≡ false)) → fell ≡ false → keeps ≡ true → some ≡ true
-not_fallen fell keeps true both no' yes' = refl
-not_fallen fell keeps false both no' yes' = absurd (let e = both.1 (yes', refl) in let wrong : true ≡ false = sym e ∙ no' in cc)
-
 pub has_stayed : (facts : SeasonFacts) (at : Setting) (matrix : SeatTable) (all : List Stand) (seats : List (Option Seat)) (k : ℕ) (d : Stand) (s : Option Seat) (e : Person)
     → IsAtCut facts at matrix all seats → k < length facts.people → (holds (get_or all k d).standing ≡ true → is_some (get_or seats k s) ≡ true) → HasStayed facts at.papers at.state (get_or facts.people k e)
 has_stayed facts at matrix all seats k d s e c less h keeps =
@@ -327,13 +323,17 @@ grouped_whole facts at matrix all seats k count groups c end g =
     let full = full_seekers facts at.state c.sound in
     grouping_whole count k (seekers_at facts at.state) seats groups (full_seats facts at matrix all seats c ∙ sym full) (omega (arith, end, full)) g
 
--- the people of a group are those who apply
-pub group_is : (facts : SeasonFacts) (at : Setting) (matrix : SeatTable) (all : List Stand) (seats : List (Option Seat)) (count p : ℕ) (groups : List (List ℕ)) (group : List ℕ) → IsAtCut facts at matrix all seats
-    → AreGroups count (seekers_at facts at.state) seats groups → slice_get groups p ≡ Some group → picked facts.people group ≡ applicants_at facts at.papers at.state p
-group_is facts at matrix all seats count p groups group c g there =
-    ap (picked facts.people) (g.each p group there)
+-- the people of the group of a programme whose list was read are those who apply
+pub group_has : (facts : SeasonFacts) (at : Setting) (matrix : SeatTable) (all : List Stand) (seats : List (Option Seat)) (lists : List ListRead) (groups : List (List ℕ)) (group d : List ℕ) (p : ℕ) (people : List Person)
+    → IsAtCut facts at matrix all seats → AreLists facts at lists → AreGroups (length facts.matrix.programmes) (seekers_at facts at.state) seats groups → p < length lists → group ≡ get_or groups p d
+    → people ≡ picked facts.people group → people ≡ applicants_at facts at.papers at.state p
+group_has facts at matrix all seats lists groups group d p people c are g less is some =
+    let known = list_within facts at lists p are less in
+    let full = g.full in
+    let there : slice_get groups p ≡ Some group = slice_get-get_or groups p d (omega (arith, known, full)) ∙ ap Some (sym is) in
+    some ∙ (ap (picked facts.people) (g.each p group there)
     ∙ (picked_those facts.people p 0 (seekers_at facts at.state) seats (λ i s at'. let number : 0 + i ≡ i = omega arith in ap (slice_get facts.people) number ∙ (enters facts at.state i s c.sound at').person_at)
-    ∙ ap (λ (z : List (Option Seat)). applicants p (seekers_at facts at.state) z) c.seats_are)
+    ∙ ap (λ (z : List (Option Seat)). applicants p (seekers_at facts at.state) z) c.seats_are))
 
 -- what a seek leaves, put where nothing stood
 pub left_is : (matrix : SeatTable) (list out mid new : List ProgId) (seek other : Seek) → out ≡ new → new ≡ mid ++ seek_leaves matrix seek list → mid ≡ [] → seek ≡ other → out ≡ seek_leaves matrix other list

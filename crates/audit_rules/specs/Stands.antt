@@ -1,5 +1,5 @@
 -- The standing of each candidate in the open window of a replay.
-use Rattle.std.specs.Prelude.{ℕ, Bool, not, ◌&&◌, ◌||◌, ◌==◌, ◌+◌, nat_le, List, Option, Some, None, is_some, map, option_map}
+use Rattle.std.specs.Prelude.{ℕ, Bool, not, ◌&&◌, ◌||◌, ◌==◌, ◌+◌, nat_le, List, Option, None, is_some, map, option_map}
 use Rattle.office_base.specs.Limits.{most_turns}
 use Rattle.office_base.specs.declared.asks.By.{By}
 use Rattle.office_base.specs.declared.asks.Seat.{Seat}
@@ -53,8 +53,3 @@ may_answer stand row = not (is_gone stand.standing) && ((is_some stand.seat || i
 -- the answer is the candidate's own, is of the next turn, and may be given
 abbrev pub notes : Stand → By → AnswerRow → Bool
 notes stand by row = is_candidate by row.cand && ((row.turn == stand.last + 1) && may_answer stand row)
-
--- the seat, or else the other
-abbrev pub or_seat : Option Seat → Option Seat → Option Seat
-or_seat None other = other
-or_seat (Some seat) other = Some seat

@@ -1,10 +1,8 @@
 // Whether the final admissions in the papers are those of the last round.
-ghost use Rattle.std.specs.Prelude.{◌≡◌, ◌↔◌, ◌≤◌, ◌+◌, IsTrue, None, length, if◌then◌else◌};
+ghost use Rattle.std.specs.Prelude.{◌≡◌, ◌↔◌, IsTrue};
 ghost use Rattle.office_moves.specs.Moves.{final_rows};
 ghost use Rattle.season_facts.specs.Season.{facts_of};
-ghost use Rattle.round_options.specs.Options.{holds};
 ghost use Rattle.office_moves.specs.State.{State};
-ghost use Rattle.audit_rules.specs.Finals.{GoesOn, rows_of};
 ghost use Rattle.audit_rules.specs.Stands.{stands_along};
 
 use crate::stand::Stand;
@@ -25,38 +23,6 @@ fn is_row(row: AllotRow, round: u16, cand: CandId, seat: Seat) -> bool
     }
 }
 
-/// The seat, where the candidate keeps it.
-fn kept(stand: &Stand) -> Option<Seat>
-    ensures { result ≡ (if holds stand.now.standing then stand.now.seat else None) }
-{
-    if stand.standing.holds() {
-        stand.seat
-    } else {
-        None
-    }
-}
-
-/// Whether the row at this place is that of the seat, where there is a seat.
-fn goes_on(rows: &[AllotRow], next: usize, round: u16, cand: CandId, seat: Option<Seat>) -> bool
-    requires { next ≤ length rows.now }
-    ensures { IsTrue result ↔ GoesOn rows.now next round cand seat }
-{
-    match seat {
-        Some(seat) => next < rows.len() && is_row(rows[next], round, cand, seat),
-        None => true,
-    }
-}
-
-/// So many rows a seat has.
-fn rows_of(seat: Option<Seat>) -> usize
-    ensures { result ≡ rows_of seat }
-{
-    match seat {
-        Some(_) => 1,
-        None => 0,
-    }
-}
-
 /// Returns whether the rows are those of the candidates who keep a seat after the last window, in the order of the register.
 /// Their round is one more than the rounds of the season. Allocates nothing.
 pub fn are_final(season: &Season, stands: &[Stand], rows: &[AllotRow]) -> bool
@@ -67,11 +33,20 @@ pub fn are_final(season: &Season, stands: &[Stand], rows: &[AllotRow]) -> bool
     let number = season.rounds + 1;
     let mut next = 0;
     for (k, person) in season.register.people().iter().enumerate() {
-        let seat = kept(&stands[k]);
-        if !goes_on(rows, next, number, person.id, seat) {
+        let stand = &stands[k];
+        if !stand.standing.holds() {
+            continue;
+        }
+        let Some(seat) = stand.seat else {
+            continue;
+        };
+        if next == rows.len() {
             return false;
         }
-        next += rows_of(seat);
+        if !is_row(rows[next], number, person.id, seat) {
+            return false;
+        }
+        next += 1;
     }
     next == rows.len()
 }

@@ -6,7 +6,7 @@ ghost use Rattle.season_facts.specs.Season.{facts_of};
 ghost use Rattle.seeks.specs.Seek.{AreBelow};
 ghost use Rattle.audit_rules.specs.Cut.{seekers_at};
 ghost use Rattle.audit_rules.specs.AtCut.{IsAtCut, Setting};
-ghost use Rattle.audit_rules.specs.Groups.{AreGroups, picked, with_one};
+ghost use Rattle.audit_rules.specs.Groups.{AreGroups, picked};
 
 use crate::sought::seek_of;
 use crate::stand::Stand;
@@ -97,26 +97,16 @@ fn person_at(people: &[Person], at: u32) -> Option<Person>
     people.get(at as usize).copied()
 }
 
-/// Puts the person, where there is one, after the others.
-fn push_some(some: &mut Vec<Person>, person: Option<Person>) -> Result<(), OutOfMemory>
-    ensures { OnOk result (some.new.items ≡ some.old.items ++ with_one person []) }
-{
-    match person {
-        Some(person) => {
-            some.push(person)?;
-            Ok(())
-        }
-        None => Ok(()),
-    }
-}
-
 /// The people at some places.
 pub fn pick(alloc: Global, people: &[Person], places: &[u32]) -> Result<Vec<Person>, OutOfMemory>
     ensures { IfOk result (λ some. some.items ≡ picked people.now places.now) }
 {
     let mut some = Vec::with_capacity(alloc, places.len())?;
     for at in places {
-        push_some(&mut some, person_at(people, *at))?;
+        let Some(person) = person_at(people, *at) else {
+            continue;
+        };
+        some.push(person)?;
     }
     Ok(some)
 }

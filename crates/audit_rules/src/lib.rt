@@ -26,6 +26,7 @@ pub use fault::Fault;
 pub use finals::are_final;
 pub use next::stands_after;
 pub use raises::lifts;
+pub use sought::{place_of, seek_of};
 pub use stand::Stand;
 pub use told::seats_told;
 pub use verdict::Verdict;

@@ -1,26 +1,15 @@
 // Which raises a replay takes.
 ghost use Rattle.std.specs.Prelude.{◌≡◌, ◌≤◌};
 ghost use Rattle.office_base.specs.Limits.{most_raised_seats};
-ghost use Rattle.audit_rules.specs.Raises.{lifts, may_have};
+ghost use Rattle.audit_rules.specs.Raises.{lifts};
 
 use kept_rows::RaiseRow;
 use office_base::limits::{MOST_MATRIX_SEATS, MOST_STEP_SEATS};
 use office_base::{By, StepKind};
 use office_moves::RaiseFacts;
 
-/// Returns whether the step may have this many seats.
-fn may_have(looks: &RaiseFacts, row: RaiseRow) -> bool
-    requires few { looks.now.seats ≤ looks.now.total }
-    requires all { looks.now.total ≤ most_raised_seats }
-    ensures { result ≡ may_have looks.now row }
-{
-    !matches!(row.step, StepKind::Dereserved)
-        && looks.seats < row.seats
-        && u32::from(row.seats) <= MOST_STEP_SEATS
-        && looks.total - u32::from(looks.seats) + u32::from(row.seats) <= MOST_MATRIX_SEATS
-}
-
-/// Returns whether the clerk raises seats anew, in the open window, before the last one. It takes no memory.
+/// Returns whether the clerk raises seats anew, in the open window, before the last one, to a number that the step may have.
+/// It takes no memory.
 pub fn lifts(looks: &RaiseFacts, by: By, row: RaiseRow) -> bool
     requires few { looks.now.seats ≤ looks.now.total }
     requires all { looks.now.total ≤ most_raised_seats }
@@ -30,5 +19,8 @@ pub fn lifts(looks: &RaiseFacts, by: By, row: RaiseRow) -> bool
         && !looks.again
         && row.window == looks.window
         && looks.window < looks.rounds
-        && may_have(looks, row)
+        && !matches!(row.step, StepKind::Dereserved)
+        && looks.seats < row.seats
+        && u32::from(row.seats) <= MOST_STEP_SEATS
+        && looks.total - u32::from(looks.seats) + u32::from(row.seats) <= MOST_MATRIX_SEATS
 }

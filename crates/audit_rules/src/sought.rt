@@ -18,7 +18,8 @@ use seat_matrix::Matrix;
 use seeks::{Seek, is_sought};
 
 /// Returns the place of a programme on a list, counted from 0, or the length of the list if the programme is not on it.
-fn place_of(list: &[ProgId], prog: ProgId) -> usize
+/// It is a copy of the function of `cut_arrays`, so that an audit calls nothing of the office here.
+pub fn place_of(list: &[ProgId], prog: ProgId) -> usize
     ensures place { result ≡ place_of list.now prog.0 }
     ensures within { result ≤ length list.now }
 {
@@ -30,24 +31,16 @@ fn place_of(list: &[ProgId], prog: ProgId) -> usize
     list.len()
 }
 
-/// The place of a seat in a list, where there is a seat.
-fn seat_place(list: &[ProgId], seat: Option<Seat>) -> Option<u16>
-    requires { length list.now ≤ 1000 }
-    ensures { result ≡ option_map (λ seat. place_of list.now seat.prog.0) seat }
-{
-    match seat {
-        Some(seat) => Some(place_of(list, seat.prog) as u16),
-        None => None,
-    }
-}
-
-/// What a candidate with this list seeks at a cut.
-pub(crate) fn seek_of(list: &[ProgId], stand: &Stand) -> Seek
+/// Returns what a candidate with this list seeks at a cut.
+pub fn seek_of(list: &[ProgId], stand: &Stand) -> Seek
     requires short { length list.now ≤ 1000 }
     requires seated { holds stand.now.standing ≡ true → IsSome stand.now.seat }
     ensures { result ≡ seek_by list.now stand.now }
 {
-    next_seek(stand.standing, seat_place(list, stand.seat))
+    match stand.seat {
+        Some(seat) => next_seek(stand.standing, Some(place_of(list, seat.prog) as u16)),
+        None => next_seek(stand.standing, None),
+    }
 }
 
 /// The programme of the seat, where the candidate does not seek it.
@@ -94,13 +87,6 @@ pub fn first_unsought(
     None
 }
 
-/// Whether the candidate keeps a seat, and has none.
-fn has_fallen(stand: &Stand, seat: Option<Seat>) -> bool
-    ensures { IsTrue result ↔ ((holds stand.now.standing ≡ true) × (is_some seat ≡ false)) }
-{
-    stand.standing.holds() && seat.is_none()
-}
-
 /// Returns the first candidate whose standing is freeze, float or slide and who has no seat.
 pub fn first_fallen(
     season: &Season,
@@ -117,7 +103,7 @@ pub fn first_fallen(
 {
     let _ = matrix;
     for (k, person) in season.register.people().iter().enumerate() {
-        if has_fallen(&stands[k], seats[k]) {
+        if stands[k].standing.holds() && seats[k].is_none() {
             return Some(person.id);
         }
     }

@@ -1,38 +1,12 @@
 // The seats that a round's text gives, along the register.
-ghost use Rattle.std.specs.Prelude.{◌≡◌, ◌∷◌, ◌++◌, [], IfOk, List, None, Some, length, replicate};
+ghost use Rattle.std.specs.Prelude.{◌≡◌, ◌∷◌, ◌++◌, [], IfOk, List, length};
 ghost use Rattle.kept_rows.specs.declared.rows.AllotRow.{AllotRow as AnyRow};
 ghost use Rattle.audit_rules.specs.Papers.{seats_told};
-ghost use Rattle.audit_rules.specs.Stands.{or_seat};
 
 use kept_rows::AllotRow;
 use office_base::{OutOfMemory, Seat};
 use rank_lists::Register;
 use std::alloc::Global;
-
-/// So many candidates without a seat.
-fn no_seats(alloc: Global, count: usize) -> Result<Vec<Option<Seat>>, OutOfMemory>
-    ensures { IfOk result (λ seats. seats.items ≡ replicate count None) }
-{
-    let mut seats = Vec::with_capacity(alloc, count)?;
-    for done in 0..count {
-        let _ = done;
-        seats.push(None)?;
-    }
-    Ok(seats)
-}
-
-/// The seat, or else that of the row.
-fn or_seat(seat: Option<Seat>, row: &AllotRow) -> Option<Seat>
-    ensures { result ≡ or_seat seat (Some (record { prog = row.now.prog; step = row.now.step })) }
-{
-    match seat {
-        Some(_) => seat,
-        None => Some(Seat {
-            prog: row.prog,
-            step: row.step,
-        }),
-    }
-}
 
 /// Gives the candidate of a row its seat, where the candidate has none.
 fn put_row(register: &Register, seats: &mut [Option<Seat>], row: &AllotRow)
@@ -46,17 +20,10 @@ fn put_row(register: &Register, seats: &mut [Option<Seat>], row: &AllotRow)
         return;
     };
     let at = at as usize;
-    seats[at] = or_seat(seats[at], row);
-}
-
-/// Gives the candidates the seats of the rows.
-fn put_rows(register: &Register, seats: &mut [Option<Seat>], rows: &[AllotRow])
-    requires { seats.old ≡ seats_told [] register.now.people }
-    ensures { seats.new ≡ seats_told rows.now register.now.people }
-{
-    for row in rows {
-        put_row(register, seats, row);
-    }
+    seats[at] = seats[at].or(Some(Seat {
+        prog: row.prog,
+        step: row.step,
+    }));
 }
 
 /// Returns the seats that rows give, along the register. Each candidate gets the seat of their first row.
@@ -68,7 +35,9 @@ pub fn seats_told(
 ) -> Result<Vec<Option<Seat>>, OutOfMemory>
     ensures { IfOk result (λ seats. seats.items ≡ seats_told rows.now register.now.people) }
 {
-    let mut seats = no_seats(alloc, register.people().len())?;
-    put_rows(register, &mut seats, rows);
+    let mut seats = vec![in alloc; None; register.people().len()]?;
+    for row in rows {
+        put_row(register, &mut seats, row);
+    }
     Ok(seats)
 }

@@ -136,24 +136,6 @@ fn first_missed(
     first
 }
 
-/// The first miss of all: by the entries, and by those whom none names. The marks are those of nobody before.
-fn walk(
-    register: &Register,
-    seats: &[Option<Seat>],
-    entries: &[Entry],
-    marks: &mut [bool],
-    count: usize,
-) -> Option<Miss>
-    requires seats { length seats.now ≡ length register.now.people }
-    requires marks { marks.old ≡ replicate (length register.now.people) false }
-    ensures { (made : List Bool) × AreMarked register.now.people seats.now entries.now made
-        × IsFirstMiss (IsMiss register.now.people
-        seats.now entries.now made count (length seats.now)) result }
-{
-    let wrong = mark(register, seats, entries, marks);
-    first_missed(seats, marks, count, wrong)
-}
-
 /// The first candidate on whom the lists of a programme and the round's text differ, with the programme: programme by programme, and in each down the
 /// register. It is linear in the lists and the register.
 pub fn first_unlisted(
@@ -174,7 +156,8 @@ pub fn first_unlisted(
     let _ = stands;
     let all = entries(alloc, lists)?;
     let mut marks = vec![in alloc; false; seats.len()]?;
-    match walk(&season.register, seats, &all, &mut marks, lists.len()) {
+    let wrong = mark(&season.register, seats, &all, &mut marks);
+    match first_missed(seats, &marks, lists.len(), wrong) {
         Some(miss) => Ok(Some((miss.prog, season.register.people()[miss.at].id))),
         None => Ok(None),
     }
