@@ -1,11 +1,11 @@
 // What the bodies of requests ask.
 ghost use Rattle.std.specs.Prelude.{◌≡◌, ◌<◌, IfOk, OnErr, length, option_copied, option_map};
 ghost use Rattle.serde_json.specs.View.{view};
-ghost use Rattle.http_asks.specs.Bodies.{answer_in, ask_in, choice_in, code_in, cut_in, data_of, number_in, raise_in, step_in, text_in};
+ghost use Rattle.http_asks.specs.Bodies.{answer_in, ask_in, cut_in, data_of, number_in, raise_in, text_in};
 
 use crate::pages::Page;
 use office_base::limits::{LAST_ID, LAST_TURN, LAST_WINDOW, MOST_STEP_SEATS};
-use office_base::{Ask, CandId, Choice, Code, OutOfMemory, StepKind};
+use office_base::{Ask, CandId, Code, OutOfMemory};
 use office_text::{read_choice, read_step};
 use serde_json::Value;
 use std::alloc::Global;
@@ -44,7 +44,7 @@ fn answer_in(value: &Value) -> Option<Ask>
     let cand = number_in(value, "cand", 1, LAST_ID)?;
     let window = number_in(value, "window", 0, LAST_WINDOW)?;
     let turn = number_in(value, "turn", 1, LAST_TURN)?;
-    let choice = choice_in(value)?;
+    let choice = read_choice(text_in(value, "choice")?)?;
     Some(Ask::Answer {
         cand: CandId(cand),
         window: window as u16,
@@ -68,8 +68,8 @@ fn raise_in(value: &Value) -> Option<Ask>
     ensures { result ≡ raise_in (view value.now) }
 {
     let window = number_in(value, "window", 0, LAST_WINDOW)?;
-    let prog = code_in(value)?;
-    let step = step_in(value)?;
+    let prog = Code::read(text_in(value, "programme")?)?;
+    let step = read_step(text_in(value, "step")?)?;
     let seats = number_in(value, "seats", 1, MOST_STEP_SEATS)?;
     Some(Ask::Raise {
         window: window as u16,
@@ -97,25 +97,4 @@ fn text_in<'a>(value: &'a Value, key: &str) -> Option<&'a [u8]>
 {
     let text = value.get(key).and_then(Value::as_str)?;
     Some(text.as_bytes())
-}
-
-/// Returns the choice that the value has.
-fn choice_in(value: &Value) -> Option<Choice>
-    ensures { result ≡ choice_in (view value.now) }
-{
-    read_choice(text_in(value, "choice")?)
-}
-
-/// Returns the code of a programme that the value has.
-fn code_in(value: &Value) -> Option<Code>
-    ensures { result ≡ code_in (view value.now) }
-{
-    Code::read(text_in(value, "programme")?)
-}
-
-/// Returns the step that the value has.
-fn step_in(value: &Value) -> Option<StepKind>
-    ensures { result ≡ step_in (view value.now) }
-{
-    read_step(text_in(value, "step")?)
 }

@@ -4,7 +4,6 @@ ghost use Rattle.http_wire.specs.Told.{told_fields, told_message};
 ghost use Rattle.http_asks.specs.Bodies.{ask_of};
 ghost use Rattle.http_asks.specs.Told.{told};
 ghost use Rattle.http_asks.specs.Verdicts.{needs_memory, reads_body, token_in, verdict_of};
-ghost use Rattle.http_asks.specs.declared.judging.Judged.TheVariants.{Refused};
 
 use crate::bodies::{ask_in, read_body};
 use crate::pages::{Page, page_of};
@@ -42,34 +41,29 @@ pub fn judge(
         told (told_message message.now) judged ≡ verdict_of (told_message message.now)) }
     ensures memory { OnErr result (reads_body (told_message message.now) ≡ true) }
 {
-    let Some(page) = page_of(routes, target_of(message)) else {
-        return Ok(refused(404, None));
-    };
-    let method = page.method();
-    if message.method != method.name() {
-        return Ok(refused(405, Some(method)));
-    }
-    match read_ask(alloc, &page, message.body)? {
-        None => Ok(refused(400, None)),
-        Some(ask) => Ok(Judged::Asked(ask)),
-    }
-}
-
-/// Returns the target of a message as text.
-fn target_of<'a>(message: &HeldMessage<'a>) -> &'a str
-    ensures { result.now ≡ message.now.target.now }
-{
     let Ok(target) = str::from_utf8(message.target) else {
         unreachable!("the target of a message is text")
     };
-    target
-}
-
-/// Returns a refusal with this status.
-fn refused(status: u16, allow: Option<Method>) -> Judged
-    ensures { result ≡ Refused status allow }
-{
-    Judged::Refused { status, allow }
+    let Some(page) = page_of(routes, target) else {
+        return Ok(Judged::Refused {
+            status: 404,
+            allow: None,
+        });
+    };
+    let method = page.method();
+    if message.method != method.name() {
+        return Ok(Judged::Refused {
+            status: 405,
+            allow: Some(method),
+        });
+    }
+    match read_ask(alloc, &page, message.body)? {
+        None => Ok(Judged::Refused {
+            status: 400,
+            allow: None,
+        }),
+        Some(ask) => Ok(Judged::Asked(ask)),
+    }
 }
 
 /// Returns what a page asks with a body. None if the body is not what the page needs.

@@ -1,11 +1,10 @@
 // The road that a path is on, found by the kit's `matchit`.
-ghost use Rattle.std.specs.Prelude.{◌≡◌, List, ℕ, None, Ok, true, IfSome, IfNone, OnOk};
+ghost use Rattle.std.specs.Prelude.{◌≡◌, None, true, IfSome, IfNone, OnOk};
 ghost use Rattle.matchit.specs.Order.{placed};
-ghost use Rattle.matchit.specs.Route.{parse_route};
-ghost use Rattle.matchit.specs.Router.{InsertsRead, nearest};
+ghost use Rattle.matchit.specs.Router.{nearest};
 ghost use Rattle.office_text.specs.Lines.{split_at_each};
 ghost use Rattle.http_asks.specs.Pages.{page_at};
-ghost use Rattle.http_asks.specs.Router.{Fits, IsOn, fit, pattern_of, road_rows, roads_of, with_roads};
+ghost use Rattle.http_asks.specs.Router.{IsOn, fit, pattern_of, road_rows, roads_of, with_roads};
 
 use crate::roads::{ROADS, Road};
 use matchit::{InsertError, Router};
@@ -36,20 +35,12 @@ impl Routes {
         match self.router.at(path) {
             Ok(found) => {
                 let road = *found.value;
-                Some((road, after_start(road, path)))
+                let (_, rest) = path.as_bytes().split_at(road.start().len());
+                Some((road, rest))
             }
             Err(_) => None,
         }
     }
-}
-
-/// Returns what comes after the start of the paths of a road.
-fn after_start<'a>(road: Road, path: &'a str) -> &'a [u8]
-    requires { (rest : List ℕ) × IsOn road path.now rest }
-    ensures { IsOn road path.now result.now }
-{
-    let (_, rest) = path.as_bytes().split_at(road.start().len());
-    rest
 }
 
 /// Adds roads that do not conflict. Fails only if the router runs out of memory.
@@ -69,19 +60,9 @@ fn add(router: &mut Router<Road>, road: Road) -> Result<(), OutOfMemory>
     ensures { OnOk result
         (roads_of router.new ≡ placed (pattern_of road, road) (roads_of router.old)) }
 {
-    insert(router, road.route(), road)?;
-    Ok(())
-}
-
-/// Inserts a route that is read and that no other one conflicts with.
-/// Fails only if the router runs out of memory for it.
-fn insert(router: &mut Router<Road>, route: &str, road: Road) -> Result<(), OutOfMemory>
-    requires { Fits (parse_route route.now) router.old }
-    ensures { OnOk result (InsertsRead (parse_route route.now) road router.old router.new (Ok tt)) }
-{
-    match router.insert(route, road) {
+    match router.insert(road.route(), road) {
         Ok(()) => Ok(()),
         Err(InsertError::OutOfMemory) => Err(OutOfMemory),
-        Err(_) => unreachable!("the route is read, and no other one conflicts with it"),
+        Err(_) => unreachable!("no other route conflicts with it"),
     }
 }
