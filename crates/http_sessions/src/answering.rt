@@ -1,5 +1,5 @@
 // One message of the held bytes, answered.
-ghost use Rattle.std.specs.Prelude.{◌≡◌, ◌+◌, ◌≤◌, ◌<◌, ◌||◌, ◌==◌, ℕ, Option, Result, None, Some, [], ◌++◌, length, IfSome, IfNone, IsErr, OnOk, OnErr, option_copied, take};
+ghost use Rattle.std.specs.Prelude.{◌≡◌, ◌+◌, ◌≤◌, ◌<◌, ◌||◌, ◌==◌, ℕ, Option, Result, None, Some, [], ◌++◌, length, IfSome, IfNone, IsErr, OnOk, OnErr, take};
 ghost use Rattle.std.specs.Option.{unwrap_or};
 ghost use Rattle.office_base.specs.Outside.{Appends, Fails};
 ghost use Rattle.http_sessions.specs.Limits.{most_messages};
@@ -16,7 +16,7 @@ use http::StatusCode;
 use http_asks::{Judged, Routes, judge, token};
 use http_wire::{Arrived, Fault, HeldMessage, Outbox, held_message};
 use httparse::spans::{EMPTY_HEADER_SPAN, HeaderSpan};
-use office_base::{Ask, Failed, OutOfMemory, Text};
+use office_base::{Failed, OutOfMemory, Text};
 use office_links::{Link, write_link};
 use std::alloc::Global;
 
@@ -56,26 +56,6 @@ pub(crate) struct Ready {
     pub len: usize,
     pub last: bool,
     pub body: Option<Text>,
-}
-
-/// Asks the counter between the calls of the gate.
-fn ask_at<C: Counter, G: Gate>(
-    alloc: Global,
-    counter: &mut C,
-    token: Option<&[u8]>,
-    ask: &Ask,
-    gate: &G,
-    at: At,
-) -> Result<Answered, Fault>
-    requires { 1 ≤ C.asks_left counter.old }
-    ensures answer { C.answers counter.old (option_copied token.entry) ask.now result counter.new }
-    ensures left { C.asks_left counter.old ≤ C.asks_left counter.new + 1 }
-    ensures same { C.lender counter.new ≡ C.lender counter.old }
-{
-    gate.before(at.worker, at.message);
-    let answer = counter.ask(alloc, token, ask);
-    gate.after(at.worker, at.message);
-    answer
 }
 
 /// Puts the reply to what was asked; it returns the body if it does not fit.
@@ -122,7 +102,7 @@ fn closes_after(message: &HeldMessage<'_>, number: u32) -> bool
     message.closes() || number == MOST_MESSAGES
 }
 
-/// Answers a message.
+/// Answers a message, and calls the gate around what it asks.
 fn answer_message<C: Counter, G: Gate>(
     alloc: Global,
     counter: &mut C,
@@ -150,7 +130,9 @@ fn answer_message<C: Counter, G: Gate>(
             None
         }
         Ok(Judged::Asked(ask)) => {
-            let answer = ask_at(alloc, counter, token(&message.fields), &ask, gate, at);
+            gate.before(at.worker, at.message);
+            let answer = counter.ask(alloc, token(&message.fields), &ask);
+            gate.after(at.worker, at.message);
             put_answer(outbox, answer, close)
         }
     }

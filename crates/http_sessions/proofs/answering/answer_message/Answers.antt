@@ -34,10 +34,10 @@ pub returns-in-Ok-Asked-clause-goes : goal.returns-in-Ok-Asked-clause-goes
 unfolding reply_to
 returns-in-Ok-Asked-clause-goes g c =
     let e : told (told_message c.args.message.now) (Asked c.in-Ok-Asked.ask) ≡ verdict_of (told_message c.args.message.now) = ap (λ j. told (told_message c.args.message.now) j) (sym c.in-Ok-Asked.field-0-is) ∙ c.in-Ok-Asked.ensures.exact in
-    let r = c.ask_at-answer.result in
-    let after = c.ask_at-answer.new.counter in (
+    let r = c.ask-answer.result in
+    let after = c.ask-answer.new.self in (
       heard r,
       subst (λ v. IsAsked v (λ token ask. g.C.Counter.answers c.args.counter.now token ask r after)) e
-          (subst (λ t. g.C.Counter.answers c.args.counter.now t c.in-Ok-Asked.ask r after) c.token.ensures c.ask_at-answer.ensures.answer),
+          (subst (λ t. g.C.Counter.answers c.args.counter.now t c.in-Ok-Asked.ask r after) c.token.ensures c.ask-answer.ensures.answer),
       c.put_answer.ensures ∙ ap (λ b. answered_text b r) c.closes_after-close.ensures,
     )
