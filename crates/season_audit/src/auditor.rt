@@ -1,5 +1,5 @@
 // The replay of a season from its papers.
-ghost use Rattle.std.specs.Prelude.{◌≡◌, ◌↔◌, ◌<◌, ◌≤◌, ◌+◌, IfOk, IfSome, IsTrue, OnOk, Some, length, slice_get};
+ghost use Rattle.std.specs.Prelude.{◌≡◌, ◌↔◌, ◌<◌, ◌≤◌, IfOk, IfSome, IsTrue, OnOk, Some, length, slice_get};
 ghost use Rattle.office_base.specs.declared.asks.Request.{Request as AnyRequest};
 ghost use Rattle.office_moves.specs.Decided.{decide_answer, decide_cut, decide_raise_of, decided};
 ghost use Rattle.office_moves.specs.Facts.{find_programme};
@@ -10,7 +10,6 @@ ghost use Rattle.audit_rules.specs.Papers.{Papers};
 ghost use Rattle.audit_rules.specs.AtCut.{Setting};
 ghost use Rattle.season_audit.specs.Audit.{ComesTo, IsUpTo, Passes, StandAfter, papers_in};
 ghost use Rattle.season_audit.specs.Deeds.{Does, IsOfMatrix};
-ghost use Rattle.office_moves.specs.Judge.{is_clerk};
 ghost use Rattle.audit_rules.specs.Cut.{EndHolds};
 ghost use Rattle.audit_rules.specs.Stands.{stands_along};
 
@@ -24,13 +23,6 @@ use raised_seats::RaisedSeats;
 use season_facts::says_what_is_sound;
 use season_file::Season;
 use std::alloc::Global;
-
-/// Returns whether the clerk asks.
-fn is_clerk(by: By) -> bool
-    ensures { result ≡ is_clerk by }
-{
-    by == By::Clerk
-}
 
 /// Notes an answer of the open window, if the rules accept it. Then the answer gives the candidate's standing.
 fn note(season: &Season, stands: &mut [Stand], by: By, row: AnswerRow)
@@ -117,17 +109,6 @@ fn deed_of(season: &Season, request: &Request) -> Deed
         },
         _ => Deed::Nothing,
     }
-}
-
-/// Returns who asks at this place of the script, and what the request may do.
-fn deed_at(dossier: &Dossier, at: usize) -> (By, Deed)
-    requires { at < length dossier.now.script }
-    ensures known { IsOfMatrix (facts_of dossier.now.season) result.1 }
-    ensures does { (request : AnyRequest) → slice_get dossier.now.script at ≡ Some request
-        → Does (facts_of dossier.now.season) request result.0 result.1 }
-{
-    let request = &dossier.script.as_slice()[at];
-    (request.by, deed_of(&dossier.season, request))
 }
 
 /// A replay: the matrix with what was raised, the standing of each candidate, and the open window.
@@ -245,7 +226,7 @@ impl Auditor {
             state (decide_cut (facts_of dossier.now.season) state by window) self.new) }
     {
         let rounds = dossier.season.rounds;
-        if !is_clerk(by) {
+        if by != By::Clerk {
             return Ok(None);
         }
         if window != self.window {
@@ -275,8 +256,9 @@ impl Auditor {
             ≡ Some request → ComesTo (facts_of dossier.now.season) (papers_in dossier.now)
             state (decided (facts_of dossier.now.season) state request) self.new fault) }
     {
-        let (by, deed) = deed_at(dossier, at);
-        match deed {
+        let request = &dossier.script.as_slice()[at];
+        let by = request.by;
+        match deed_of(&dossier.season, request) {
             Deed::Answer(row) => {
                 self.answer(&dossier.season, by, row);
                 Ok(None)

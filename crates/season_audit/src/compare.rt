@@ -1,10 +1,10 @@
 // Whom the best round gives a better place.
-ghost use Rattle.std.specs.Prelude.{◌≡◌, ◌<◌, ◌↔◌, IfOk, IsTrue, length};
+ghost use Rattle.std.specs.Prelude.{◌≡◌, IfOk};
 ghost use Rattle.allocations.specs.Market.{rank_of};
 ghost use Rattle.season_facts.specs.Season.{facts_of};
 ghost use Rattle.season_audit.specs.Compared.{AreCompared, GainComesTo, Setting};
 
-use cut_arrays::place_of;
+use audit_rules::place_of;
 use office_base::{CandId, OutOfMemory, ProgId, Seat};
 use season_file::Season;
 use seat_matrix::Matrix;
@@ -19,13 +19,6 @@ fn rank_of(list: &[ProgId], seat: Option<Seat>) -> usize
         Some(seat) => place_of(list, seat.prog),
         None => list.len(),
     }
-}
-
-/// Returns whether the first seat is at an earlier place of a list than the second.
-fn is_better(list: &[ProgId], seat: Option<Seat>, other: Option<Seat>) -> bool
-    ensures { IsTrue result ↔ (rank_of list.now seat < rank_of list.now other) }
-{
-    rank_of(list, seat) < rank_of(list, other)
 }
 
 /// Returns the first candidate of the register whom the best seats give a better place of what was sought than the seats of the text do.
@@ -46,7 +39,8 @@ pub(crate) fn first_gain(
         let list = season.choices.list_near(k, person.id);
         sought.clear();
         push_left(&mut sought, matrix, seeks[k], list)?;
-        if is_better(&sought, best[k], seats[k]) {
+        let left = sought.as_slice();
+        if rank_of(left, best[k]) < rank_of(left, seats[k]) {
             return Ok(Some(person.id));
         }
     }

@@ -1,5 +1,5 @@
 // The texts of a dossier that a cut takes.
-ghost use Rattle.std.specs.Prelude.{◌≡◌, ◌≤◌, ◌-◌, ◌*◌, ◌+◌, drop, length, take};
+ghost use Rattle.std.specs.Prelude.{◌≡◌};
 ghost use Rattle.audit_rules.specs.Papers.{lists_after, rows_after};
 ghost use Rattle.audit_rules.specs.Comes.{told_by};
 ghost use Rattle.season_audit.specs.Audit.{NameOnce, papers_in};
@@ -18,15 +18,6 @@ pub fn rows_after(dossier: &Dossier, rounds: u16) -> &[AllotRow]
     }
 }
 
-/// The lists from one place to before another.
-fn part(lists: &[ListRead], from: usize, to: usize) -> &[ListRead]
-    requires rising { from ≤ to }
-    requires within { to ≤ length lists.now }
-    ensures { result.now ≡ take (to - from) (drop from lists.now) }
-{
-    &lists[from..to]
-}
-
 /// The lists of that round, one for each of so many programmes; fewer where there are not so many.
 pub(crate) fn lists_after(dossier: &Dossier, count: u16, rounds: u16) -> &[ListRead]
     ensures lists { told_by result.now ≡ lists_after (papers_in dossier.now) count rounds }
@@ -35,5 +26,5 @@ pub(crate) fn lists_after(dossier: &Dossier, count: u16, rounds: u16) -> &[ListR
     let lists = dossier.lists.as_slice();
     let from = (usize::from(rounds) * usize::from(count)).min(lists.len());
     let to = (from + usize::from(count)).min(lists.len());
-    part(lists, from, to)
+    &lists[from..to]
 }
