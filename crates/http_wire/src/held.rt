@@ -19,21 +19,11 @@ pub fn held_message<'a>(held: &'a [u8], room: &'a mut [HeaderSpan; 64]) -> Arriv
     ensures exact { ComesTo held.now (told result) }
     ensures stays { Stays held.now (told result) }
 {
-    match head_len(prefix(held, MOST_HEAD_BYTES)) {
+    let first = &held[..MOST_HEAD_BYTES.min(held.len())];
+    match head_len(first) {
         Some(end) => after_head(held, end, room),
         None if held.len() < MOST_HEAD_BYTES => Arrived::More,
         None => Arrived::Refused(431),
-    }
-}
-
-/// The first so many bytes, or all where there are fewer.
-fn prefix(bytes: &[u8], most: usize) -> &[u8]
-    ensures { result.now ≡ take most bytes.now }
-{
-    if most < bytes.len() {
-        &bytes[..most]
-    } else {
-        bytes
     }
 }
 
