@@ -4,7 +4,7 @@ ghost use Rattle.kept_rows.specs.Tables.{IsTold};
 ghost use Rattle.office_http.specs.Asking.{AsksOffice, IsAnswerOf, request_of, token_of};
 ghost use Rattle.office_http.specs.Bodies.{AreBodies};
 ghost use Rattle.proceedings.specs.Proceeding.{last_of};
-ghost use Rattle.shown_replies.specs.Shown.{CameOf, CanBeShown};
+ghost use Rattle.shown_replies.specs.Shown.{CameOf};
 
 use crate::bodies::{Bodies, body_of_reply};
 use http::StatusCode;
@@ -88,19 +88,10 @@ fn answer_of<K: Keeper>(
     let Ok(status) = StatusCode::from_u16(status_of(reply)) else {
         unreachable!("it is a status")
     };
-    can_be_written(office, reply);
-    let body = body_of_reply(alloc, office, bodies, reply);
-    Answered { status, body }
-}
-
-/// Shows that a reply that led to the office's state can be shown. It allocates nothing.
-fn can_be_written<K: Keeper>(office: &Office<K>, reply: &Reply)
-    requires { CameOf office.now.season office.now.state reply.now }
-    ensures { CanBeShown office.now.season office.now.state reply.now }
-{
     let _entries = office.entries();
     history_laws::laws::orderly();
     replies_can_be_shown();
     says_what_is_sound(office.season());
-    let _reply = reply;
+    let body = body_of_reply(alloc, office, bodies, reply);
+    Answered { status, body }
 }

@@ -1,13 +1,10 @@
 // The doors of an office, served at once.
-ghost use Rattle.std.specs.Prelude.{◌≡◌, ◌≤◌, ◌<◌, ◌^◌, ◌++◌, [], true, false, length, IfOk, IfErr, OnErr};
+ghost use Rattle.std.specs.Prelude.{◌≡◌, ◌≤◌, ◌<◌, ◌^◌, [], length, IfOk, IfErr, OnErr};
 ghost use Rattle.std.specs.List.{AllByRecursion};
 ghost use Rattle.office_base.specs.Limits.{most_doors, most_connections};
 ghost use Rattle.door_crews.specs.Served.{telling};
-ghost use Rattle.door_crews.specs.Workers.{IsRow};
 ghost use Rattle.kept_rows.specs.Tables.{IsTold};
-ghost use Rattle.office_http.specs.Asking.{AnswersAt, UnanswersAt};
-ghost use Rattle.office_desk.specs.Words.{belongs, count_of, left_of, origin_of, own_of, seen_of, shares_of, tickets_of};
-ghost use Rattle.office_http.specs.Hands.{worker_of};
+ghost use Rattle.office_desk.specs.Words.{belongs, count_of, left_of, origin_of, seen_of, shares_of, tickets_of};
 ghost use Rattle.office_http.specs.Serving.{Serves};
 ghost use Rattle.proceedings.specs.Proceeding.{last_of};
 
@@ -17,7 +14,7 @@ use door_crews::work_all;
 use http_sessions::{Buffers, Gate};
 use keeper_mem::Keeper;
 use office_base::OutOfMemory;
-use office_desk::{Booked, Desk, Pass};
+use office_desk::{Desk, Pass};
 use office_links::Door;
 use round_cut::Office;
 use std::alloc::Global;
@@ -99,6 +96,7 @@ fn serve_stood<
 }
 
 /// Serves the doors with turns at a desk that has just begun, and ends it.
+/// The crew begins as one worker with the whole pass and with no entries of its own.
 fn serve_desk<
     B: TablesBefore + Send + Sync,
     R: Threads + Wait + Sync,
@@ -124,43 +122,21 @@ fn serve_desk<
         (origin_of desk) result.office result.door_failed doors.old doors.new }
     ensures told { IsTold (K.seen result.office.keeper).tables → IsTold B.tables }
 {
-    let mut hand = first_hand(pass);
-    serve_all(rt, alloc, &desk, gate, &mut hand, doors, buffers);
-    let DeskWorker { pass, failed } = hand;
-    Served {
-        office: end_desk(desk, pass),
-        door_failed: failed,
-    }
-}
-
-/// Returns the first worker, with the pass of a desk that has just begun.
-fn first_hand<V: Booked>(pass: Pass<V>) -> DeskWorker<V>
-    requires { tickets_of pass ≡ [] }
-    ensures pass { result.pass ≡ pass }
-    ensures own { own_of result.pass ≡ [] }
-    ensures failed { result.failed ≡ false }
-{
-    DeskWorker {
+    let mut hand = DeskWorker {
         pass,
         failed: false,
+    };
+    let shop = Shared {
+        alloc,
+        desk: &desk,
+        gate,
+    };
+    work_all(rt, &shop, 0, &mut hand, doors, buffers);
+    let DeskWorker { pass, failed } = hand;
+    Served {
+        office: desk.close(pass).into_office(),
+        door_failed: failed,
     }
-}
-
-/// Ends the desk, and gives the office back.
-fn end_desk<K: Keeper, B: TablesBefore>(
-    desk: Desk<DeskOffice<K, B>>,
-    pass: Pass<DeskOffice<K, B>>,
-) -> Office<K>
-    requires desk { belongs desk pass }
-    requires whole { shares_of pass ≡ 2 ^ 30 }
-    ensures season { result.season ≡ (origin_of desk).season }
-    ensures room { (K.seen result.keeper).holds_room ≡ (K.seen (origin_of desk).keeper).holds_room }
-    ensures seen { result.entries ≡ seen_of pass }
-    ensures own { result.entries ≡ (origin_of desk).entries ++ own_of pass }
-    ensures count { count_of pass ≤ (K.seen result.keeper).faults }
-    ensures told { IsTold (K.seen result.keeper).tables → IsTold B.tables }
-{
-    desk.close(pass).into_office()
 }
 
 /// Makes buffers for this many workers.
@@ -172,36 +148,4 @@ fn make_buffers(alloc: Global, count: usize) -> Result<Vec<Buffers>, OutOfMemory
         buffers.push(Buffers::new(alloc)?)?;
     }
     Ok(buffers)
-}
-
-/// Has all doors served by a crew, which begins as one worker with the whole pass and with no entries of its own.
-fn serve_all<
-    R: Threads + Wait + Sync,
-    K: Keeper + Send,
-    B: TablesBefore + Send + Sync,
-    D: Door<Conn: Send> + Send,
-    G: Gate + Sync,
->(
-    rt: &R,
-    alloc: Global,
-    desk: &Desk<DeskOffice<K, B>>,
-    gate: &G,
-    hand: &mut DeskWorker<DeskOffice<K, B>>,
-    doors: &mut [D],
-    buffers: &mut [Buffers],
-)
-    requires few { length doors.old ≤ most_doors }
-    requires as_many { length buffers.old ≡ length doors.old }
-    requires suit { AllByRecursion (λ door. D.to_come door ≤ most_connections) doors.old }
-    requires whole { belongs desk.now hand.old.pass × (shares_of hand.old.pass ≡ 2 ^ 30)
-        × (left_of hand.old.pass ≡ 2 ^ 40) }
-    requires fresh { (own_of hand.old.pass ≡ []) × (hand.old.failed ≡ false) }
-    ensures same_desk { belongs desk.now hand.new.pass }
-    ensures row { IsRow (AnswersAt (origin_of desk.now).season)
-        (UnanswersAt (origin_of desk.now).season (K.seen (origin_of desk.now).keeper).holds_room)
-        (telling D.Door D.Conn.Link) (worker_of hand.old) doors.old doors.new (worker_of hand.new) }
-    ensures shares { shares_of hand.new.pass ≡ shares_of hand.old.pass }
-{
-    let shop = Shared { alloc, desk, gate };
-    work_all(rt, &shop, 0, hand, doors, buffers);
 }
