@@ -56,16 +56,6 @@ impl MemDoor {
     }
 }
 
-// Takes the first of the links out.
-fn take_first(links: &mut Vec<MemLink>) -> MemLink
-    requires { 0 < length links.old.items }
-    ensures first { links.old.items ≡ result ∷ links.new.items }
-    ensures len { length links.old.items ≡ length links.new.items + 1 }
-    ensures room { vec_capacity links.new ≡ vec_capacity links.old }
-{
-    links.remove(0)
-}
-
 impl Door for MemDoor {
     ghost use Rattle.std.specs.Prelude.{Some, length, refl};
     ghost use Rattle.office_links.specs.Memory.{visits};
@@ -82,6 +72,7 @@ impl Door for MemDoor {
 
     ghost told_number = { λ door. refl };
 
+    #[tactic(auto, using(crate::proofs::Taking::first_is))]
     fn accept(&mut self) -> Result<Option<MemLink>, Failed>
         ensures none { IfOk result (λ r.
             IfNone r ((length self.old.coming ≡ 0) × (length self.new.coming ≡ 0))) }
@@ -104,7 +95,7 @@ impl Door for MemDoor {
         if self.coming.is_empty() {
             return Ok(None);
         }
-        Ok(Some(take_first(&mut self.coming)))
+        Ok(Some(self.coming.remove(0)))
     }
 
     fn give_back(&mut self, conn: MemLink)
