@@ -53,14 +53,10 @@ fn push_entries(out: &mut Text, entries: usize, door_failed: bool) -> Result<(),
     out.extend_from_slice(b"entries ")?;
     out.extend_from_slice(buffer.format(entries).as_bytes())?;
     out.extend_from_slice(b"\n")?;
-    out.extend_from_slice(door_line(door_failed))
-}
-
-/// Returns the line of a door that failed, or nothing.
-fn door_line(door_failed: bool) -> &'static [u8]
-    ensures { result.now ≡ door_line door_failed }
-{
-    if door_failed { b"fault: door\n" } else { b"" }
+    if !door_failed {
+        return Ok(());
+    }
+    out.extend_from_slice(b"fault: door\n")
 }
 
 /// Writes how far the office is, with the status of that, or that memory ran out for it.
