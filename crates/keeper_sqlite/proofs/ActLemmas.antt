@@ -6,7 +6,8 @@ use Rattle.sqlite.specs.Order.{Row}
 use Rattle.sqlite.specs.State.{HasCleanDisk}
 use Rattle.sqlite.specs.Held.{Held, state}
 use Rattle.keeper_sqlite.specs.Inside.{Acts, Performs}
-use Rattle.keeper_sqlite.specs.Kept.{Call}
+use Rattle.keeper_sqlite.specs.Kept.{Call, call_of}
+use Rattle.keeper_sqlite.specs.declared.calls.Act.{Act}
 use Rattle.keeper_sqlite.specs.declared.halt.Halt.{Halt}
 
 -- the cause is handed on
@@ -22,3 +23,7 @@ acts_broken g {Breaks = Breaks} old new (Err e) halt is why = record { done = λ
 -- the same call with the same values
 pub same_values : {S : Type 0} (g : Ghosts S) (call : Row → Call) (one two : Row) (old new : MutBor (Held S)) (r : Result (Unit {0}) Halt) → one ≡ two → Performs g (call one ∷ []) old new r → Performs g (call two ∷ []) old new r
 same_values {S} g call one two old new r is acts = subst (λ (values : Row). Performs g (call values ∷ []) old new r) is acts
+
+-- the call of this act
+pub of_act : {S : Type 0} (g : Ghosts S) (act one : Act) (old new : MutBor (Held S)) (r : Result (Unit {0}) Halt) → act ≡ one → Performs g (call_of one ∷ []) old new r → Performs g (call_of act ∷ []) old new r
+of_act {S} g act one old new r is acts = subst (λ (a : Act). Performs g (call_of a ∷ []) old new r) (sym is) acts

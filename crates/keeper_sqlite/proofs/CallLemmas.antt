@@ -1,10 +1,9 @@
 -- Calls that follow one another in a transaction.
-use Rattle.std.proofs.Common.{◌≡◌, ◌+◌, ◌<◌, ◌≤◌, ◌^◌, ◌∙◌, ap, append-nil, append_assoc, ℕ, zero, suc, slice_get, take, drop, map, get_or, length, false, List, [], ◌∷◌, ◌++◌, Option, Some, None, Result, Ok, Err, IsTrue, IfOk, OnOk, sym, subst, refl, inl, inr, arith}
+use Rattle.std.proofs.Common.{◌≡◌, ◌+◌, ◌<◌, ◌≤◌, ◌∙◌, ap, append-nil, append_assoc, ℕ, zero, suc, slice_get, take, drop, map, get_or, length, false, List, [], ◌∷◌, ◌++◌, Option, Some, None, Result, Ok, Err, IsTrue, IfOk, sym, subst, refl, inl, inr, arith}
 use Rattle.std.proofs.lemmas.Bool.{cases_Bool}
 use Rattle.std.proofs.lemmas.List.{drop_more, take_more}
 use Rattle.std.specs.List.{AllByRecursion, AllZip, concat}
 use Rattle.stored_tables.specs.Fits.{AllotFits}
-use Rattle.std.specs.Result.{result_ok}
 use Rattle.sqlite.specs.Store.{Ghosts}
 use Rattle.sqlite.specs.Order.{Row}
 use Rattle.sqlite.specs.State.{HasCleanDisk, Executes, ExecutesInside}
@@ -17,9 +16,10 @@ use Rattle.kept_rows.specs.declared.rows.Kept.{Kept}
 use Rattle.keeper_sqlite.specs.declared.rising.Key.{Key}
 use Rattle.keeper_sqlite.specs.Columns.{IsKeyRow, TellsKey, IsPhaseRow, IsPartRow, IsAnswerRow, IsRaiseRow, IsAllotRow, TellsPhase}
 use Rattle.keeper_sqlite.specs.Commits.{CommitsNothing}
-use Rattle.keeper_sqlite.specs.Kept.{Call, DidAll, TellsRecords, TellsText, TellsTables, TellsKept, text_query, answers_query, raises_query, allots_query, TellsPhaseOf, MakesCut, ToldPhase, AreAbove, PutsText, seat_calls, phase_query, part_text, part_values, part_calls, text_calls, season_calls, unanswered_calls, any_row_queries, opening_text, opening_values}
-use Rattle.keeper_sqlite.specs.Kept.Call.{Runs, Places, Asks, Readies}
+use Rattle.keeper_sqlite.specs.Kept.{Call, DidAll, TellsRecords, TellsText, TellsTables, TellsKept, text_query, answers_query, raises_query, allots_query, TellsPhaseOf, ToldPhase, PutsText, phase_query, part_values, part_calls}
+use Rattle.keeper_sqlite.specs.Kept.Call.{Runs, Places, Asks}
 use Rattle.keeper_sqlite.specs.declared.halt.Halt.{Halt}
+use Rattle.keeper_sqlite.proofs.CommitLemmas.{was_clean}
 
 -- A statement runs only inside a transaction.
 pub ran_inside : {S : Type 0} (g : Ghosts S) (text : List ℕ) (values : Row) (old new : Held S) (done : Result ℕ Error) (count : ℕ) → done ≡ Ok count
@@ -53,14 +53,6 @@ pub did_then : {S : Type 0} (g : Ghosts S) (one two : List Call) (old mid new : 
 did_then {S} g [] two old mid new first next = subst (λ (h : Held S). DidAll g two h new) (sym first) next
 did_then g (call ∷ calls) two old mid new first next = (first.0, first.1, did_then g calls two first.0 mid new first.2 next)
 
--- the same of two functions, of which the second is reached only if the first ended well
-pub both_done : {S : Type 0} (g : Ghosts S) (one two : List Call) (old mid new : Held S) (first ended : Result (Unit {0}) Halt) → first ≡ Ok tt → CommitsNothing (state g mid) (state g new)
-    → (HasCleanDisk (state g mid) → OnOk first (DidAll g one old mid)) → (HasCleanDisk (state g new) → OnOk ended (DidAll g two mid new))
-    → HasCleanDisk (state g new) → OnOk ended (DidAll g (one ++ two) old new)
-both_done g one two old mid new first (Err halt) is nothing before after clean = tt
-both_done g one two old mid new first (Ok none) is nothing before after clean =
-    let was : HasCleanDisk (state g mid) = omega (arith, nothing.survives.clean) in did_then g one two old mid new (rw is at (before was)) (after clean)
-
 -- Of all calls since the beginning these are left.
 abbrev pub Leaves : {S : Type 0} → Ghosts S → List Call → List Call → Held S → Held S → Type 0
 Leaves {S} g all left old mid = HasCleanDisk (state g mid) → (last : Held S) → DidAll g left mid last → DidAll g all old last
@@ -69,7 +61,7 @@ Leaves {S} g all left old mid = HasCleanDisk (state g mid) → (last : Held S) �
 pub leaves_fewer : {S : Type 0} (g : Ghosts S) (all left : List Call) (call : Call) (old mid next : Held S) → CommitsNothing (state g mid) (state g next)
     → Leaves g all (call ∷ left) old mid → (HasCleanDisk (state g next) → DidAll g (call ∷ []) mid next) → Leaves g all left old next
 leaves_fewer g all left call old mid next nothing leaves made clean last done =
-    let was : HasCleanDisk (state g mid) = omega (arith, nothing.survives.clean) in
+    let was = was_clean nothing clean in
     leaves was last (did_then g (call ∷ []) left mid next last (made clean) done)
 
 -- one more of the calls for a list is made
@@ -85,18 +77,6 @@ fit_more rows i d within all one = subst (AllByRecursion AllotFits) (sym (take_m
     push : (some : List AllotRow) → AllByRecursion AllotFits some → AllByRecursion AllotFits (some ++ get_or rows i d ∷ [])
     push [] h = (one, tt)
     push (row ∷ some) h = (h.0, push some h.1)
-
--- the test of the phase, the test of the rows and the puts
-pub cut_made : {S : Type 0} (g : Ghosts S) (rows : List AllotRow) (count : ℕ) (old one two new : Held S) (made : Result ℕ Halt) (above ended : Result (Unit {0}) Halt)
-    → made ≡ Ok count → above ≡ Ok tt → CommitsNothing (state g one) (state g two) → CommitsNothing (state g two) (state g new)
-    → (HasCleanDisk (state g one) → IfOk made (λ n. ToldPhase g n old one)) → (HasCleanDisk (state g two) → OnOk above (AreAbove g rows one two))
-    → (HasCleanDisk (state g new) → OnOk ended (DidAll g (seat_calls count rows) two new)) → OnOk ended (AllByRecursion AllotFits rows) → OnOk ended (count + 1 < 2 ^ 16)
-    → HasCleanDisk (state g new) → OnOk ended (MakesCut g rows old new)
-cut_made g rows count old one two new made above (Err halt) is_made is_above first next phase keys puts fit room clean = tt
-cut_made g rows count old one two new made above (Ok none) is_made is_above first next phase keys puts fit room clean =
-    let was : HasCleanDisk (state g two) = omega (arith, next.survives.clean) in
-    let before : HasCleanDisk (state g one) = omega (arith, was, first.survives.clean) in
-    record { made = count; asked = one; tested = two; phase = rw is_made at (phase before); above = rw is_above at (keys was); put = puts clean; fit = fit; room = room }
 
 -- the rows that a query returned, as they were read
 pub told_as : {S A : Type 0} (g : Ghosts S) (text : List ℕ) (rows seen : List Row) (P : List Row → A → Type 0) (old new : Held S) (ended : Result A Halt) → seen ≡ rows
@@ -124,29 +104,12 @@ row_amiss rows row is none (Some made) tells =
     let same : tells.0 ≡ row = (let f = e in cc) in
     none made (subst (λ (r : Row). IsPhaseRow r made) same tells.2)
 
-pub none_told : {S : Type 0} (g : Ghosts S) (text : List ℕ) (rows seen : List Row) (old new : Held S) (ended : Result (Unit {0}) Halt) → seen ≡ rows
-    → (HasCleanDisk (state g new) → DidAll g (Asks text rows ∷ []) old new) → OnOk ended (seen ≡ []) → HasCleanDisk (state g new) → OnOk ended (DidAll g (Asks text [] ∷ []) old new)
-none_told g text rows seen old new (Err halt) is asked empty clean = tt
-none_told {S} g text rows seen old new (Ok none) is asked empty clean = subst (λ (r : List Row). DidAll g (Asks text r ∷ []) old new) (sym is ∙ empty) (asked clean)
-
 -- one row of the phase
-pub told_one : {S : Type 0} (g : Ghosts S) (old new : Held S) (found : Option ℕ) (ended : Result ℕ Halt) → found ≡ result_ok ended
-    → (HasCleanDisk (state g new) → TellsPhaseOf g found old new) → HasCleanDisk (state g new) → IfOk ended (λ made. ToldPhase g made old new)
-told_one g old new found (Err halt) is told clean = tt
-told_one {S} g old new found (Ok made) is told clean =
-    let it : TellsPhaseOf g (Some made) old new = subst (λ (f : Option ℕ). TellsPhaseOf g f old new) is (told clean) in
+pub told_one : {S : Type 0} (g : Ghosts S) (old new : Held S) (found : Option ℕ) (made : ℕ) → found ≡ Some made → TellsPhaseOf g found old new → ToldPhase g made old new
+told_one {S} g old new found made is told =
+    let it : TellsPhaseOf g (Some made) old new = subst (λ (f : Option ℕ). TellsPhaseOf g f old new) is told in
     let one : TellsPhase it.rows (Some made) = it.tells in
     record { row = one.0; is = one.2; asked = subst (λ (r : List Row). DidAll g (Asks phase_query r ∷ []) old new) one.1 it.asked }
-
--- a statement is made ready, and then its calls are made
-pub ready_then : {S : Type 0} (g : Ghosts S) (text got : List ℕ) (calls : List ℕ → List Call) (old mid new : Held S) (ended : Result (Unit {0}) Halt) → CommitsNothing (state g mid) (state g new)
-    → (HasCleanDisk (state g mid) → (got ≡ text) × DidAll g (Readies text ∷ []) old mid) → (HasCleanDisk (state g new) → OnOk ended (DidAll g (calls got) mid new))
-    → HasCleanDisk (state g new) → OnOk ended (DidAll g (Readies text ∷ calls text) old new)
-ready_then g text got calls old mid new (Err halt) nothing ready made clean = tt
-ready_then {S} g text got calls old mid new (Ok none) nothing ready made clean =
-    let was : HasCleanDisk (state g mid) = omega (arith, nothing.survives.clean) in
-    let first = ready was in
-    did_then g (Readies text ∷ []) (calls text) old mid new first.1 (subst (λ (t : List ℕ). DidAll g (calls t) mid new) first.0 (made clean))
 
 -- Of a text that is put in parts, which are numbered on from here, this is left.
 abbrev pub LeavesText : {S : Type 0} → Ghosts S → List ℕ → List ℕ → ℕ → List ℕ → Held S → Held S → Type 0
@@ -158,7 +121,7 @@ pub part_put : {S : Type 0} (g : Ghosts S) (insert text rest part after : List �
     → CommitsNothing (state g mid) (state g new) → LeavesText g insert text number rest old mid → (HasCleanDisk (state g new) → DidAll g (Runs insert (part_values number part) ∷ []) mid new)
     → LeavesText g insert text next after old new
 part_put {S} g insert text rest part after number next old mid new cut short is nothing leaves made clean last put =
-    let was : HasCleanDisk (state g mid) = omega (arith, nothing.survives.clean) in
+    let was = was_clean nothing clean in
     let later : DidAll g (part_calls insert (number + 1) put.parts) new last = subst (λ (n : ℕ). DidAll g (part_calls insert n put.parts) new last) is put.done in
     leaves was last (record {
       parts = part ∷ put.parts;
@@ -170,35 +133,6 @@ part_put {S} g insert text rest part after number next old mid new cut short is 
 pub text_put : {S : Type 0} (g : Ghosts S) (insert text rest : List ℕ) (number : ℕ) (old mid : Held S) → rest ≡ [] → LeavesText g insert text number rest old mid → HasCleanDisk (state g mid)
     → PutsText g (part_calls insert 0) text old mid
 text_put g insert text rest number old mid none leaves clean = leaves clean mid (record { parts = []; joined = sym none; short = tt; done = refl })
-
--- the statement for the parts is made ready before
-pub text_ready : {S : Type 0} (g : Ghosts S) (got text : List ℕ) (old mid new : Held S) (ended : Result (Unit {0}) Halt) → CommitsNothing (state g mid) (state g new)
-    → (HasCleanDisk (state g mid) → (got ≡ part_text) × DidAll g (Readies part_text ∷ []) old mid) → (HasCleanDisk (state g new) → OnOk ended (PutsText g (part_calls got 0) text mid new))
-    → HasCleanDisk (state g new) → OnOk ended (PutsText g text_calls text old new)
-text_ready g got text old mid new (Err halt) nothing ready put clean = tt
-text_ready {S} g got text old mid new (Ok none) nothing ready put clean =
-    let was : HasCleanDisk (state g mid) = omega (arith, nothing.survives.clean) in
-    let first = ready was in
-    let then : PutsText g (part_calls part_text 0) text mid new = subst (λ (t : List ℕ). PutsText g (part_calls t 0) text mid new) first.0 (put clean) in
-    record { parts = then.parts; joined = then.joined; short = then.short; done = did_then g (Readies part_text ∷ []) (part_calls part_text 0 then.parts) old mid new first.1 then.done }
-
--- the test of the tables, the parts and the row of the phase
-pub season_put : {S : Type 0} (g : Ghosts S) (text : List ℕ) (old one two new : Held S) (empty put ended : Result (Unit {0}) Halt) → empty ≡ Ok tt → put ≡ Ok tt
-    → CommitsNothing (state g one) (state g two) → CommitsNothing (state g two) (state g new)
-    → (HasCleanDisk (state g one) → OnOk empty (DidAll g (unanswered_calls any_row_queries) old one)) → (HasCleanDisk (state g two) → OnOk put (PutsText g text_calls text one two))
-    → (HasCleanDisk (state g new) → OnOk ended (DidAll g (Places opening_text opening_values ∷ []) two new)) → HasCleanDisk (state g new) → OnOk ended (PutsText g season_calls text old new)
-season_put g text old one two new empty put (Err halt) is_empty is_put first next tested parts opened clean = tt
-season_put {S} g text old one two new empty put (Ok none) is_empty is_put first next tested parts opened clean =
-    let was : HasCleanDisk (state g two) = omega (arith, next.survives.clean) in
-    let before : HasCleanDisk (state g one) = omega (arith, was, first.survives.clean) in
-    let then : PutsText g text_calls text one two = rw is_put at (parts was) in
-    record {
-      parts = then.parts;
-      joined = then.joined;
-      short = then.short;
-      done = did_then g (unanswered_calls any_row_queries) (text_calls then.parts ++ Places opening_text opening_values ∷ []) old one new (rw is_empty at (tested before))
-          (did_then g (text_calls then.parts) (Places opening_text opening_values ∷ []) one two new then.done (opened clean));
-    }
 
 -- one more row, and the record that it holds
 pub zip_push : {A B : Type 0} (R : A → B → Type 0) (xs : List A) (ys : List B) (x : A) (y : B) → AllZip R xs ys → R x y → AllZip R (xs ++ x ∷ []) (ys ++ y ∷ [])
@@ -246,16 +180,16 @@ pub tables_told : {S : Type 0} (g : Ghosts S) (kept : Kept) (old one two three n
     → (HasCleanDisk (state g three) → TellsRecords g IsRaiseRow raises_query kept.raises two three) → (HasCleanDisk (state g new) → TellsRecords g IsAllotRow allots_query kept.allots three new)
     → HasCleanDisk (state g new) → TellsTables g kept old new
 tables_told g kept old one two three new first second third season answers raises allots clean =
-    let later : HasCleanDisk (state g three) = omega (arith, clean, third.survives.clean) in
-    let middle : HasCleanDisk (state g two) = omega (arith, later, second.survives.clean) in
-    let before : HasCleanDisk (state g one) = omega (arith, middle, first.survives.clean) in
+    let later = was_clean third clean in
+    let middle = was_clean second later in
+    let before = was_clean first middle in
     record { one = one; two = two; three = three; season = season before; answers = answers middle; raises = raises later; allots = allots clean }
 
 -- the phase before them
 pub found_kept : {S : Type 0} (g : Ghosts S) (kept : Kept) (cuts : ℕ) (found : Option ℕ) (old mid new : Held S) → found ≡ Some cuts → kept.cuts ≡ cuts → CommitsNothing (state g mid) (state g new)
     → (HasCleanDisk (state g mid) → TellsPhaseOf g found old mid) → (HasCleanDisk (state g new) → TellsTables g kept mid new) → HasCleanDisk (state g new) → TellsKept g (Some kept) old new
 found_kept {S} g kept cuts found old mid new is same nothing phase tables clean =
-    let was : HasCleanDisk (state g mid) = omega (arith, clean, nothing.survives.clean) in
+    let was = was_clean nothing clean in
     (mid, subst (λ (f : Option ℕ). TellsPhaseOf g f old mid) (is ∙ ap (λ (n : ℕ). Some n) (sym same)) (phase was), tables clean)
 
 pub none_kept : {S : Type 0} (g : Ghosts S) (found : Option ℕ) (old new : Held S) → found ≡ None → (HasCleanDisk (state g new) → TellsPhaseOf g found old new) → HasCleanDisk (state g new) → TellsKept g None old new

@@ -15,6 +15,10 @@ use Rattle.keeper_sqlite.specs.Stored.{Stored}
 use Rattle.keeper_sqlite.specs.declared.halt.Halt.{Halt}
 use Rattle.keeper_sqlite.specs.declared.transactions.Change.{Change}
 
+-- a disk that is clean now was clean before
+pub was_clean : {old new : State} → CommitsNothing old new → HasCleanDisk new → HasCleanDisk old
+was_clean nothing clean = omega (arith, nothing.survives.clean)
+
 pub nothing_then : (a b c : State) → CommitsNothing a b → CommitsNothing b c → CommitsNothing a c
 nothing_then a b c one two = record {
   survives = survives_then a b c _ _ _ (λ _ db none. none) (λ _ db none. none) one.survives two.survives;
@@ -49,15 +53,6 @@ kept_made g change old begun mid last done (Ok none) is made settled ok now comm
     let before : HasCleanDisk (state g mid) = omega (arith, settled.clean) in
     record { last = mid; done = rw is at (rw ok at (made before (rw is))); shown = now clean; committed = committed clean; last_open = (both clean).0; is_open = (both clean).1 }
 
--- What is returned of a transaction is what was kept.
-pub kept_told : {S : Type 0} (g : Ghosts S) (P : Held S → Type 0) (done : Result (Unit {0}) Halt) (told : Result (Unit {0}) KeepFault) (mid last : Stored S)
-    → IfOk told (λ value. done ≡ Ok value) → (¬ IsErrOf told Failed → last ≡ mid) → (HasCleanDisk (state g mid.connection) → OnOk done (P mid.connection))
-    → HasCleanDisk (state g last.connection) → OnOk told (P last.connection)
-kept_told g P done (Err fault) mid last ok same kept clean = tt
-kept_told {S} g P done (Ok none) mid last ok same kept clean =
-    let is : last ≡ mid = same (λ failed. let e = failed in cc) in
-    subst (λ (k : Stored S). P k.connection) (sym is) (rw ok at (kept (subst (λ (k : Stored S). HasCleanDisk (state g k.connection)) is clean)))
-
 -- What was seen in a transaction that was rolled back.
 pub looked : {S T : Type 0} (g : Ghosts S) (P : T → Held S → Held S → Type 0) (old begun mid last : Held S) (found : Result T Halt) → begun ≡ record old { in_transaction = true }
     → Survives (state g mid) (state g last) (λ _. ⊥) → (HasCleanDisk (state g mid) → IfOk found (λ value. P value begun mid)) → (HasCleanDisk (state g last) → IsRolledBack (state g mid) (state g last))
@@ -67,7 +62,7 @@ looked {S} g P old begun mid last (Ok value) is nothing told undone clean =
     let was : HasCleanDisk (state g mid) = omega (arith, nothing.clean) in
     record { last = mid; done = subst (λ (h : Held S). P value h mid) is (told was); undone = undone clean }
 
--- The same as the keeper returns it.
+-- What the keeper returns of a transaction is what the transaction returned.
 pub value_told : {S T : Type 0} (g : Ghosts S) (P : T → Held S → Type 0) (done : Result T Halt) (told : Result T KeepFault) (mid last : Stored S)
     → IfOk told (λ value. done ≡ Ok value) → (¬ IsErrOf told Failed → last ≡ mid) → (HasCleanDisk (state g mid.connection) → IfOk done (λ value. P value mid.connection))
     → HasCleanDisk (state g last.connection) → IfOk told (λ value. P value last.connection)

@@ -29,10 +29,10 @@ use Rattle.stored_tables.specs.Told.{told, told_if, is_bare, records_of, tables_
 use Rattle.stored_tables.specs.Rows.{cuts_of}
 use Rattle.stored_tables.proofs.TellLemmas.{text_same, answers_same, raises_same, allots_same}
 use Rattle.stored_tables.proofs.LayoutLemmas.{layout}
-use Rattle.keeper_sqlite.specs.Kept.{DidAll, plain_calls, table_texts, Keeps, Makes, MadeBy, MakesCut, PutsText, Ran, season_calls, answer_text, answer_values, raise_text, raise_values}
+use Rattle.keeper_sqlite.specs.Kept.{DidAll, plain_calls, table_texts, Keeps, Makes, MadeBy, PutsText, season_calls}
 use Rattle.keeper_sqlite.specs.declared.transactions.Change.{Change}
 use Rattle.keeper_sqlite.specs.declared.transactions.Change.TheVariants as change
-use Rattle.keeper_sqlite.proofs.ToldLemmas.{put_told, answer_made, raise_made, season_made, cut_made_told, answer_keeps, raise_keeps, season_keeps, cut_keeps}
+use Rattle.keeper_sqlite.proofs.ToldLemmas.{KeepsIf, put_told, answer_made, raise_made, season_made, cut_made_told, answer_keeps, raise_keeps, season_keeps, cut_keeps}
 
 pub are_told : (x t : Tables) → t ≡ x → AreTold x t
 are_told x Untold is = tt
@@ -73,46 +73,7 @@ module _ {S : Type 0} (g : Ghosts S) where
   err_told h shut x (Ok none) clean = tt
   err_told h shut x (Err fault) clean = open_told h shut x clean
 
-  -- ---- what is visible after each put that ended well
-
-  pub answer_stays : (row : AnswerRow) (old new : Held S) (r : Result (Unit {0}) KeepFault) → AnswerFits row → IsFound true (told (state g old))
-      → (HasCleanDisk (state g new) → OnOk r (Keeps g (Ran g answer_text (answer_values row)) old new)) → HasCleanDisk (state g new) → OnOk r (told (state g new) ≡ with_answer row (told (state g old)))
-  answer_stays row old new (Err fault) fits found kept clean = tt
-  answer_stays row old new (Ok none) fits found kept clean =
-      put_told g (with_answer row) (Ran g answer_text (answer_values row)) old new refl (λ last ran. answer_keeps g row (begun old) last ran)
-      (λ strict last has before ran. answer_made g strict row (begun old) last fits has ran (subst (IsFound true) before found)) (kept clean)
-
-  pub raise_stays : (row : RaiseRow) (old new : Held S) (r : Result (Unit {0}) KeepFault) → RaiseFits row → IsFound true (told (state g old))
-      → (HasCleanDisk (state g new) → OnOk r (Keeps g (Ran g raise_text (raise_values row)) old new)) → HasCleanDisk (state g new) → OnOk r (told (state g new) ≡ with_raise row (told (state g old)))
-  raise_stays row old new (Err fault) fits found kept clean = tt
-  raise_stays row old new (Ok none) fits found kept clean =
-      put_told g (with_raise row) (Ran g raise_text (raise_values row)) old new refl (λ last ran. raise_keeps g row (begun old) last ran)
-      (λ strict last has before ran. raise_made g strict row (begun old) last fits has ran (subst (IsFound true) before found)) (kept clean)
-
-  season_is : (strict : Bool) (text : List ℕ) (old last : Held S) → (state g old).now.schema ≡ stored strict → PutsText g season_calls text (begun old) last → tables_in (state g last).now.trees ≡ with_season text (tables_in (state g old).now.trees)
-  season_is strict text old last has put = let it = season_made g strict text (begun old) last has put in it.after ∙ ap (with_season text) (sym it.before)
-
-  -- a season is put if none of the five tables has a row
-  pub season_empty : (strict : Bool) (text : List ℕ) (old new : Held S) (r : Result (Unit {0}) KeepFault) → (HasCleanDisk (state g new) → OnOk r (Keeps g (PutsText g season_calls text) old new))
-      → HasCleanDisk (state g new) → old.schema ≡ stored strict → OnOk r (AllByRecursion (λ t. (state g old).now.trees t ≡ []) (0 ∷ 1 ∷ 3 ∷ 5 ∷ 6 ∷ []))
-  season_empty strict text old new (Err fault) kept clean has = tt
-  season_empty strict text old new (Ok none) kept clean has = let k = kept clean in (season_made g strict text (begun old) k.last has k.done).none
-
-  pub season_stays : (text : List ℕ) (old new : Held S) (r : Result (Unit {0}) KeepFault) → (HasCleanDisk (state g new) → OnOk r (Keeps g (PutsText g season_calls text) old new))
-      → HasCleanDisk (state g new) → OnOk r (told (state g new) ≡ with_season text (told (state g old)))
-  season_stays text old new (Err fault) kept clean = tt
-  season_stays text old new (Ok none) kept clean =
-      put_told g (with_season text) (PutsText g season_calls text) old new refl (λ last put. season_keeps g text (begun old) last put)
-      (λ strict last has before put. season_is strict text old last has put) (kept clean)
-
-  pub cut_stays : (rows : List AllotRow) (old new : Held S) (r : Result (Unit {0}) KeepFault) → (HasCleanDisk (state g new) → OnOk r (Keeps g (MakesCut g rows) old new))
-      → HasCleanDisk (state g new) → OnOk r (told (state g new) ≡ with_cut rows (told (state g old)))
-  cut_stays rows old new (Err fault) kept clean = tt
-  cut_stays rows old new (Ok none) kept clean =
-      put_told g (with_cut rows) (MakesCut g rows) old new refl (λ last put. cut_keeps g rows (begun old) last put)
-      (λ strict last has before put. cut_made_told g strict rows (begun old) last has put) (kept clean)
-
-  -- ---- what a crash leaves of each put
+  -- ---- what each change makes of the visible tables
 
   -- a store with visible tables has its tables
   pub told_has : (h : Held S) → IsTold (told (state g h)) → (strict : Bool) × ((state g h).now.schema ≡ stored strict) × (told (state g h) ≡ tables_in (state g h).now.trees)
@@ -129,40 +90,85 @@ module _ {S : Type 0} (g : Ghosts S) where
       second true b h = h
       second false b h = absurd (true≢false (sym h))
 
-  crash_of : (change : Change) (f : Tables → Tables) (old new : Held S) → ((strict : Bool) (last : Held S) → (state g old).now.schema ≡ stored strict → told (state g old) ≡ tables_in (state g old).now.trees → Makes g change (begun old) last
-      → tables_in (state g last).now.trees ≡ f (tables_in (state g old).now.trees)) → Survives (state g old) (state g new) (MadeBy g change old) → IsTold (told (state g old)) → Survives (state g old) (state g new) (λ db. tables_in db ≡ f (told (state g old)))
-  crash_of change f old new makes made it =
-      let h = told_has old it in
-      survives_weaker (state g old) (state g new) _ _ (λ clean db by. ap tables_in by.is ∙ (makes h.0 by.last h.1 h.2 by.done ∙ ap f (sym h.2))) made
+  -- It hides none and keeps the schema. What it makes of stored tables is this.
+  pub record Puts (change : Change) (f : Tables → Tables) (old : Held S) : Type 0 where
+    pub hidden : f Untold ≡ Untold
+    pub keeps : (last : Held S) → Makes g change (begun old) last → KeepsIf g (begun old) last
+    pub makes : (strict : Bool) (last : Held S) → (state g old).now.schema ≡ stored strict → told (state g old) ≡ tables_in (state g old).now.trees → Makes g change (begun old) last
+        → tables_in (state g last).now.trees ≡ f (tables_in (state g old).now.trees)
 
-  pub answer_crash : (row : AnswerRow) (old new : Held S) → AnswerFits row → IsFound true (told (state g old)) → Survives (state g old) (state g new) (MadeBy g (change.Answer row) old) → IsTold (told (state g old))
-      → Survives (state g old) (state g new) (λ db. tables_in db ≡ with_answer row (told (state g old)))
-  answer_crash row old new fits found = crash_of (change.Answer row) (with_answer row) old new (λ strict last has before ran. answer_made g strict row (begun old) last fits has ran (subst (IsFound true) before found))
+  pub answer_puts : (row : AnswerRow) (old : Held S) → AnswerFits row → IsFound true (told (state g old)) → Puts (change.Answer row) (with_answer row) old
+  answer_puts row old fits found = record {
+    hidden = refl;
+    keeps = λ last ran. answer_keeps g row (begun old) last ran;
+    makes = λ strict last has before ran. answer_made g strict row (begun old) last fits has ran (subst (IsFound true) before found);
+  }
 
-  pub raise_crash : (row : RaiseRow) (old new : Held S) → RaiseFits row → IsFound true (told (state g old)) → Survives (state g old) (state g new) (MadeBy g (change.Raise row) old) → IsTold (told (state g old))
-      → Survives (state g old) (state g new) (λ db. tables_in db ≡ with_raise row (told (state g old)))
-  raise_crash row old new fits found = crash_of (change.Raise row) (with_raise row) old new (λ strict last has before ran. raise_made g strict row (begun old) last fits has ran (subst (IsFound true) before found))
+  pub raise_puts : (row : RaiseRow) (old : Held S) → RaiseFits row → IsFound true (told (state g old)) → Puts (change.Raise row) (with_raise row) old
+  raise_puts row old fits found = record {
+    hidden = refl;
+    keeps = λ last ran. raise_keeps g row (begun old) last ran;
+    makes = λ strict last has before ran. raise_made g strict row (begun old) last fits has ran (subst (IsFound true) before found);
+  }
 
-  pub season_crash : (text : Bor (List ℕ)) (old new : Held S) → Survives (state g old) (state g new) (MadeBy g (change.Season text) old) → IsTold (told (state g old))
-      → Survives (state g old) (state g new) (λ db. tables_in db ≡ with_season text.now (told (state g old)))
-  season_crash text old new = crash_of (change.Season text) (with_season text.now) old new (λ strict last has before put. season_is strict text.now old last has put)
+  pub season_puts : (text : Bor (List ℕ)) (old : Held S) → Puts (change.Season text) (with_season text.now) old
+  season_puts text old = record {
+    hidden = refl;
+    keeps = λ last put. season_keeps g text.now (begun old) last put;
+    makes = λ strict last has before put. let it = season_made g strict text.now (begun old) last has put in it.after ∙ ap (with_season text.now) (sym it.before);
+  }
 
-  pub cut_crash : (rows : Bor (List AllotRow)) (old new : Held S) → Survives (state g old) (state g new) (MadeBy g (change.Cut rows) old) → IsTold (told (state g old))
-      → Survives (state g old) (state g new) (λ db. tables_in db ≡ with_cut rows.now (told (state g old)))
-  cut_crash rows old new = crash_of (change.Cut rows) (with_cut rows.now) old new (λ strict last has before put. cut_made_told g strict rows.now (begun old) last has put)
+  pub cut_puts : (rows : Bor (List AllotRow)) (old : Held S) → Puts (change.Cut rows) (with_cut rows.now) old
+  cut_puts rows old = record {
+    hidden = refl;
+    keeps = λ last put. cut_keeps g rows.now (begun old) last put;
+    makes = λ strict last has before put. cut_made_told g strict rows.now (begun old) last has put;
+  }
 
-  -- ---- a crash after a put that ended well leaves the visible tables unchanged
+  -- a season is put if none of the five tables has a row
+  pub season_empty : (strict : Bool) (text : List ℕ) (old new : Held S) (r : Result (Unit {0}) KeepFault) → (HasCleanDisk (state g new) → OnOk r (Keeps g (PutsText g season_calls text) old new))
+      → HasCleanDisk (state g new) → old.schema ≡ stored strict → OnOk r (AllByRecursion (λ t. (state g old).now.trees t ≡ []) (0 ∷ 1 ∷ 3 ∷ 5 ∷ 6 ∷ []))
+  season_empty strict text old new (Err fault) kept clean has = tt
+  season_empty strict text old new (Ok none) kept clean has = let k = kept clean in (season_made g strict text (begun old) k.last has k.done).none
+
+  -- ---- what is visible after a put, and after a crash
 
   told_is : (h : Held S) (t : Tables) → told (state g h) ≡ t → IsTold t → tables_in (state g h).now.trees ≡ t
   told_is h t is it = sym (told_has h (subst IsTold (sym is) it)).2 ∙ is
 
-  pub alone_kept : (Done : Held S → Held S → Type 0) (old new : Held S) (r : Result (Unit {0}) KeepFault) → ((db : Trees) → IsTrue (g.view new.store).is_open → g.recovers new.store db → db ≡ (g.view new.store).committed)
+  pub record PutShows (change : Change) (f : Tables → Tables) (old new : Held S) (r : Result (Unit {0}) KeepFault) : Type 0 where
+    pub stays : Puts change f old → HasCleanDisk (state g new) → OnOk r (told (state g new) ≡ f (told (state g old)))
+    pub ok : Puts change f old → OnOk r (AreTold (f (told (state g old))) (told (state g new)))
+    pub err : OnErr r (AreTold (told (state g old)) (told (state g new)))
+    pub crash : Puts change f old → IsTold (told (state g old)) → Survives (state g old) (state g new) (λ db. tables_in db ≡ f (told (state g old)))
+    pub alone : HasCleanDisk (state g new) → OnOk r (IsTold (told (state g new)) → (db : Trees) → (state g new).may_leave db → tables_in db ≡ told (state g new))
+
+  puts_stays : (change : Change) (f : Tables → Tables) (old new : Held S) (r : Result (Unit {0}) KeepFault) → (HasCleanDisk (state g new) → OnOk r (Keeps g (Makes g change) old new)) → Puts change f old
+      → HasCleanDisk (state g new) → OnOk r (told (state g new) ≡ f (told (state g old)))
+  puts_stays change f old new (Err fault) kept puts clean = tt
+  puts_stays change f old new (Ok none) kept puts clean = put_told g f (Makes g change) old new puts.hidden puts.keeps puts.makes (kept clean)
+
+  alone_kept : (Done : Held S → Held S → Type 0) (old new : Held S) (r : Result (Unit {0}) KeepFault) → ((db : Trees) → IsTrue (g.view new.store).is_open → g.recovers new.store db → db ≡ (g.view new.store).committed)
       → (HasCleanDisk (state g new) → OnOk r (Keeps g Done old new)) → HasCleanDisk (state g new)
       → OnOk r (IsTold (told (state g new)) → (db : Trees) → (state g new).may_leave db → tables_in db ≡ told (state g new))
   alone_kept Done old new (Err fault) settled kept clean = tt
   alone_kept Done old new (Ok none) settled kept clean = λ it db leaves.
       let k = kept clean in
       ap tables_in (settled db k.is_open leaves ∙ ap (λ (d : Database). d.trees) (k.committed ∙ sym k.shown)) ∙ told_is new (told (state g new)) refl it
+
+  pub put_shows : (change : Change) (f : Tables → Tables) (old new : Held S) (r : Result (Unit {0}) KeepFault) → ((g.view new.store).is_clean ≡ false → (g.view new.store).is_open ≡ false)
+      → ((db : Trees) → IsTrue (g.view new.store).is_open → g.recovers new.store db → db ≡ (g.view new.store).committed)
+      → (HasCleanDisk (state g new) → IsTrue (state g new).is_open → OnErr r (told (state g new) ≡ told (state g old))) → Survives (state g old) (state g new) (MadeBy g change old)
+      → (HasCleanDisk (state g new) → OnOk r (Keeps g (Makes g change) old new)) → PutShows change f old new r
+  put_shows change f old new r shut settled stays_err made kept = record {
+    stays = puts_stays change f old new r kept;
+    ok = λ puts. ok_told new shut (f (told (state g old))) r (puts_stays change f old new r kept puts);
+    err = err_told new shut (told (state g old)) r stays_err;
+    crash = λ puts it.
+        let h = told_has old it in
+        survives_weaker (state g old) (state g new) _ _ (λ clean db by. ap tables_in by.is ∙ (puts.makes h.0 by.last h.1 h.2 by.done ∙ ap f (sym h.2))) made;
+    alone = alone_kept (Makes g change) old new r settled kept;
+  }
 
   -- ---- what is visible after a call that committed nothing
 

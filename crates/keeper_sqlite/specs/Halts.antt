@@ -1,8 +1,6 @@
 -- What comes of a transaction that was rolled back.
-use Rattle.std.specs.Prelude.{ℕ}
 use Rattle.sqlite.specs.declared.error.Error.TheVariants.{SqliteFailure}
 use Rattle.sqlite.specs.declared.error.ErrorCode.TheVariants.{OutOfMemory as NoRoom}
-use Rattle.office_base.specs.Memory.{counted}
 use Rattle.keeper_mem.specs.declared.keeper.KeepFault.{KeepFault}
 use Rattle.keeper_mem.specs.declared.keeper.KeepFault.TheVariants.{Failed, OutOfMemory}
 use Rattle.keeper_sqlite.specs.declared.halt.Halt.{Halt}
@@ -15,11 +13,6 @@ keep_fault (Refused (SqliteFailure NoRoom)) = OutOfMemory
 keep_fault (Refused error) = Failed
 keep_fault InTransaction = Failed
 keep_fault Unfit = Failed
-
--- a fault is counted, a lack of memory is not
-abbrev pub faults_after : KeepFault → ℕ → ℕ
-faults_after Failed faults = counted faults
-faults_after OutOfMemory faults = faults
 
 -- memory ran out, here or in the database
 abbrev pub WantsMemory : Halt → Type 0

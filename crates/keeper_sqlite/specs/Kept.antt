@@ -6,6 +6,7 @@ use Rattle.sqlite.specs.Tree.{Trees}
 use Rattle.sqlite.specs.Order.{Row}
 use Rattle.sqlite.specs.State.{Executes, IsUnchanged, Shown, IsRolledBack}
 use Rattle.sqlite.specs.Held.{Held, state}
+use Rattle.sqlite.specs.Values.{bound}
 use Rattle.sqlite.specs.Listing.{understood}
 use Rattle.sqlite.specs.Outline.{Outline}
 use Rattle.sqlite.specs.Steps.{Outlines}
@@ -16,7 +17,7 @@ use Rattle.stored_tables.specs.Fits.{AllotFits}
 use Rattle.keeper_sqlite.specs.Columns.{IsPhaseRow, IsPartRow, IsAnswerRow, IsRaiseRow, IsAllotRow, TellsPhase, TellsKey}
 use Rattle.keeper_sqlite.specs.Rising.{rise_after_key}
 use Rattle.keeper_sqlite.specs.declared.calls.Act.{Act}
-use Rattle.keeper_sqlite.specs.declared.calls.Act.TheVariants.{Run, ExpectNone}
+use Rattle.keeper_sqlite.specs.declared.calls.Act.TheVariants.{Run, Place, ExpectNone}
 use Rattle.keeper_sqlite.specs.declared.rising.Key.{Key}
 use Rattle.keeper_sqlite.specs.declared.transactions.Change.{Change}
 use Rattle.keeper_sqlite.specs.declared.transactions.Change.TheVariants.{Answer, Raise, Tables, Season, Cut}
@@ -36,7 +37,8 @@ pub data Call : Type 0 where
 
 -- the call of an act
 abbrev pub call_of : Act → Call
-call_of (Run text) = Runs text.now []
+call_of (Run text values) = Runs text.now (bound values.now)
+call_of (Place text values) = Places text.now (bound values.now)
 call_of (ExpectNone text) = Asks text.now []
 
 -- each text is run as it is, with no values

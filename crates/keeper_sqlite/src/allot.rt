@@ -109,18 +109,11 @@ fn first_key(rows: &[Row]) -> Result<Option<Key>, Halt>
 {
     match rows.first() {
         None => Ok(None),
-        Some(row) => Ok(Some(key_of(row)?)),
+        Some(row) => Ok(Some(Key {
+            round: small_number_at(row, 0)?,
+            cand: CandId(number_at(row, 1)?),
+        })),
     }
-}
-
-fn key_of(row: &Row) -> Result<Key, Halt>
-    ensures ok { IfOk result (IsKeyRow row.now) }
-    ensures err { IfErr result (λ halt. ¬ WantsMemory halt → (key : Key) → ¬ IsKeyRow row.now key) }
-{
-    Ok(Key {
-        round: small_number_at(row, 0)?,
-        cand: CandId(number_at(row, 1)?),
-    })
 }
 
 impl StoredRow for AllotRow {

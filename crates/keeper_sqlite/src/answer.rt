@@ -1,8 +1,6 @@
 // The table of answers.
 ghost use Rattle.std.specs.Prelude.{◌≡◌, [], ◌∷◌, codes, IfOk, IfErr, OnOk, Bool, Some, List};
-ghost use Rattle.sqlite.specs.declared.error.Error.{Error};
 ghost use Rattle.keeper_sqlite.specs.Inside.{Acts, IsClean, Performs, StaysInside, content};
-ghost use Rattle.keeper_sqlite.specs.declared.halt.Halt.TheVariants.{Refused};
 ghost use Rattle.keeper_sqlite.specs.Columns.{IsAnswerRow};
 ghost use Rattle.keeper_sqlite.specs.Kept.{Ran, TellsRecords, answers_query, answer_table, answer_text, answer_values};
 ghost use Rattle.stored_tables.specs.Layout.{stored};
@@ -12,7 +10,7 @@ ghost use Rattle.kept_rows.specs.declared.rows.AnswerRow.{AnswerRow};
 ghost use Rattle.keeper_sqlite.specs.Stops.{StopsIn, LosesRecords};
 ghost use Rattle.keeper_sqlite.specs.Kept.Call.{Runs, Asks};
 
-use crate::calls::{ask, run};
+use crate::calls::{Act, perform_one};
 use crate::columns::{choice_at, expect_number, number_at, small_number_at};
 use crate::halt::Halt;
 use crate::numbers::number_of_choice;
@@ -27,20 +25,21 @@ pub(crate) fn insert<S: Alter>(tx: &mut Transaction<'_, S>, row: AnswerRow) -> R
     ensures inside { StaysInside S.Store tx.old.conn tx.new.conn }
     ensures acts { Acts S.Store (λ _. Ran S.Store answer_text (answer_values row)) (StopsIn S.Store
         (Runs answer_text (answer_values row) ∷ [])) tx.old.conn tx.new.conn result }
-    ensures halts { IfErr result (λ halt. (error : Error) × (halt ≡ Refused error)) }
     ensures put { (strict : Bool) → IsClean S.Store tx.new.conn.now
         → tx.old.conn.now.schema ≡ stored strict → OnOk result
         (PutsAnswer row (content S.Store tx.old.conn.now) (content S.Store tx.new.conn.now)) }
 {
-    run(
+    perform_one(
         tx,
-        "INSERT INTO answer (win, cand, turn, choice) VALUES (?1, ?2, ?3, ?4)",
-        params![
-            u32::from(row.window),
-            row.cand.0,
-            u32::from(row.turn),
-            number_of_choice(row.choice)
-        ],
+        Act::Run(
+            "INSERT INTO answer (win, cand, turn, choice) VALUES (?1, ?2, ?3, ?4)",
+            params![
+                u32::from(row.window),
+                row.cand.0,
+                u32::from(row.turn),
+                number_of_choice(row.choice)
+            ],
+        ),
     )
 }
 

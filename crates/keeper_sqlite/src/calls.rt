@@ -1,23 +1,25 @@
 // Calls on the database inside a transaction, as contracts name them.
-ghost use Rattle.std.specs.Prelude.{◌≡◌, ◌≢◌, [], ◌∷◌, map, IfErr, OnOk};
+ghost use Rattle.std.specs.Prelude.{◌≡◌, [], ◌∷◌, map, IfErr};
 ghost use Rattle.sqlite.specs.declared.error.Error.{Error};
 ghost use Rattle.keeper_sqlite.specs.Inside.{Acts, Performs, StaysInside};
-ghost use Rattle.keeper_sqlite.specs.declared.halt.Halt.TheVariants.{Refused, Unfit};
+ghost use Rattle.keeper_sqlite.specs.declared.halt.Halt.TheVariants.{Refused};
 ghost use Rattle.sqlite.specs.Values.{bound};
 ghost use Rattle.keeper_sqlite.specs.Kept.{DidAll, call_of};
 ghost use Rattle.keeper_sqlite.specs.Stops.{StopsIn, IsRefusal, RefusesToTell};
-ghost use Rattle.keeper_sqlite.specs.Kept.Call.{Runs, Places, Asks, Readies};
+ghost use Rattle.keeper_sqlite.specs.Kept.Call.{Runs, Asks, Readies};
 
 use crate::halt::Halt;
 use sqlite::types::ValueRef;
 use sqlite::{Alter, Row, Statement, Transaction};
 
-/// A text that takes no values.
+/// A call that returns no rows.
 #[derive(Clone, Copy)]
 pub(crate) enum Act<'a> {
-    /// It is run as a statement.
-    Run(&'a str),
-    /// It is asked as a query, and must return no row.
+    /// The text is run as a statement with these values.
+    Run(&'a str, &'a [ValueRef<'a>]),
+    /// The same, and it must change one row.
+    Place(&'a str, &'a [ValueRef<'a>]),
+    /// The text is asked as a query, and must return no row.
     ExpectNone(&'a str),
 }
 
@@ -33,47 +35,31 @@ pub(crate) fn perform<S: Alter>(tx: &mut Transaction<'_, S>, acts: &[Act<'_>]) -
     Ok(())
 }
 
-fn perform_one<S: Alter>(tx: &mut Transaction<'_, S>, act: Act<'_>) -> Result<(), Halt>
+/// Performs one act.
+#[tactic(auto, using(crate::proofs::OpenLemmas::run_nothing))]
+pub(crate) fn perform_one<S: Alter>(tx: &mut Transaction<'_, S>, act: Act<'_>) -> Result<(), Halt>
     ensures inside { StaysInside S.Store tx.old.conn tx.new.conn }
     ensures acts { Performs S.Store (call_of act.entry ∷ []) tx.old.conn tx.new.conn result }
 {
     match act {
-        Act::Run(text) => run(tx, text, &[]),
-        Act::ExpectNone(text) => expect_none(tx, text),
-    }
-}
-
-/// Runs a statement.
-#[tactic(auto, using(crate::proofs::OpenLemmas::run_nothing))]
-pub(crate) fn run<S: Alter>(
-    tx: &mut Transaction<'_, S>,
-    text: &str,
-    values: &[ValueRef<'_>],
-) -> Result<(), Halt>
-    ensures inside { StaysInside S.Store tx.old.conn tx.new.conn }
-    ensures acts { Performs S.Store (Runs text.now (bound values.now) ∷ []) tx.old.conn tx.new.conn
-        result }
-    ensures halts { IfErr result (λ halt. (error : Error) × (halt ≡ Refused error)) }
-{
-    tx.execute(text, values)?;
-    Ok(())
-}
-
-/// Runs a statement that must change one row.
-#[tactic(auto, using(crate::proofs::OpenLemmas::run_nothing))]
-pub(crate) fn place<S: Alter>(
-    tx: &mut Transaction<'_, S>,
-    text: &str,
-    values: &[ValueRef<'_>],
-) -> Result<(), Halt>
-    ensures inside { StaysInside S.Store tx.old.conn tx.new.conn }
-    ensures acts { Performs S.Store (Places text.now (bound values.now) ∷ []) tx.old.conn
-        tx.new.conn result }
-{
-    if tx.execute(text, values)? == 1 {
-        Ok(())
-    } else {
-        Err(Halt::Unfit)
+        Act::Run(text, values) => {
+            tx.execute(text, values)?;
+            Ok(())
+        }
+        Act::Place(text, values) => {
+            if tx.execute(text, values)? == 1 {
+                Ok(())
+            } else {
+                Err(Halt::Unfit)
+            }
+        }
+        Act::ExpectNone(text) => {
+            if ask(tx, text)?.is_empty() {
+                Ok(())
+            } else {
+                Err(Halt::Unfit)
+            }
+        }
     }
 }
 
@@ -87,26 +73,6 @@ pub(crate) fn ask<S: Alter>(tx: &mut Transaction<'_, S>, text: &str) -> Result<V
     ensures halts { IfErr result (λ halt. (error : Error) × (halt ≡ Refused error)) }
 {
     Ok(tx.query_all(text, &[])?)
-}
-
-/// Tests that a query returns no row.
-#[tactic(auto, using(crate::proofs::ActLemmas::acts_broken, crate::proofs::StopLemmas::lost_asked))]
-fn expect_none<S: Alter>(tx: &mut Transaction<'_, S>, text: &str) -> Result<(), Halt>
-    ensures inside { StaysInside S.Store tx.old.conn tx.new.conn }
-    ensures acts { Performs S.Store (Asks text.now [] ∷ []) tx.old.conn tx.new.conn result }
-{
-    expect_empty(&ask(tx, text)?)
-}
-
-fn expect_empty(rows: &[Row]) -> Result<(), Halt>
-    ensures ok { OnOk result (rows.now ≡ []) }
-    ensures err { IfErr result (λ halt. (halt ≡ Unfit) × (rows.now ≢ [])) }
-{
-    if rows.is_empty() {
-        Ok(())
-    } else {
-        Err(Halt::Unfit)
-    }
 }
 
 /// Makes a statement ready.

@@ -7,7 +7,7 @@ ghost use Rattle.sqlite.specs.Held.{state};
 ghost use Rattle.keeper_sqlite.specs.Inside.{CrashLeaves, IsClean, content, shown, tables_without_raises};
 ghost use Rattle.keeper_sqlite.specs.Commits.{CommitsNothing, CommitsOnce};
 ghost use Rattle.keeper_sqlite.specs.Kept.{Keeps, MadeBy, Looks, TellsSeason, TellsKept, Makes, MakesCut, PutsText, Ran, DidAll, season_calls, plain_calls, table_texts, answer_text, answer_values, raise_text, raise_values};
-ghost use Rattle.keeper_sqlite.specs.Halts.{keep_fault, faults_after};
+ghost use Rattle.keeper_sqlite.specs.Halts.{keep_fault};
 ghost use Rattle.keeper_sqlite.specs.Transacts.{Transacts};
 ghost use Rattle.keeper_sqlite.specs.Stops.{FailsBy, StopsIn, StopsText, LosesPhase, LosesCut, LosesKept, Breaks, IsBusy, Loses};
 ghost use Rattle.keeper_sqlite.specs.Kept.Call.{Runs};
@@ -20,6 +20,7 @@ ghost use Rattle.kept_rows.specs.declared.rows.Kept.{Kept};
 ghost use Rattle.stored_tables.specs.Layout.{no_schema, first_four, stored};
 
 use crate::halt::Halt;
+use crate::looks::{AnySeason, Everything, Look, look_in};
 use crate::transactions::{self, Change};
 use keeper_mem::{KeepFault, Keeper};
 use kept_rows::{AllotRow, AnswerRow, Kept, RaiseRow};
@@ -135,7 +136,28 @@ impl<S: Alter> SqliteKeeper<S> {
         self.settle(done)
     }
 
-    /// Returns the result of a method.
+    /// Looks in one transaction, which is rolled back.
+    fn look<T, L: Look<S, T>>(&mut self, wanted: L) -> Result<T, KeepFault>
+        ensures told { AreTold (shown S.Store self.old.connection)
+            (shown S.Store self.new.connection) }
+        ensures stays { IsClean S.Store self.new.connection
+            → IsTrue (state S.Store self.new.connection).is_open
+            → shown S.Store self.new.connection ≡ shown S.Store self.old.connection }
+        ensures blamed { FailsByOne (IsErrOf result KeepFault.Failed)
+            self.old.faults self.new.faults }
+        ensures nothing { CommitsNothing (state S.Store self.old.connection)
+            (state S.Store self.new.connection) }
+        ensures found { IsClean S.Store self.new.connection → IfOk result (λ found.
+            Looks S.Store (L.tells found) self.old.connection self.new.connection) }
+        ensures lost { IsClean S.Store self.new.connection
+            → IfErr result (FailsBy (λ halt. IsBusy halt self.old.connection
+            ⊎ Looks S.Store (L.loses halt) self.old.connection self.new.connection)) }
+    {
+        let done = look_in(&mut self.connection, wanted);
+        self.settle(done)
+    }
+
+    /// Returns the result of a method. A lack of memory is reported as such, and everything else is counted.
     fn settle<T>(&mut self, done: Result<T, Halt>) -> Result<T, KeepFault>
         ensures ok { IfOk result (λ value. done ≡ Ok value) }
         ensures err { IfErr result (λ fault. IsErrAnd done (λ halt. fault ≡ keep_fault halt)) }
@@ -146,25 +168,11 @@ impl<S: Alter> SqliteKeeper<S> {
     {
         match done {
             Ok(value) => Ok(value),
-            Err(halt) => Err(self.fault_of(halt)),
-        }
-    }
-
-    /// Returns the fault of a transaction that was rolled back.
-    /// A lack of memory is reported as such, and everything else is counted.
-    fn fault_of(&mut self, halt: Halt) -> KeepFault
-        ensures count { self.old.faults ≤ self.new.faults }
-        ensures fault { result ≡ keep_fault halt }
-        ensures faults { self.new
-            ≡ record self.old { faults = faults_after result self.old.faults } }
-    {
-        match halt {
-            Halt::NoMemory | Halt::Refused(Error::SqliteFailure(ErrorCode::OutOfMemory)) => {
-                KeepFault::OutOfMemory
-            }
-            Halt::Refused(_) | Halt::InTransaction | Halt::Unfit => {
+            Err(Halt::NoMemory | Halt::Refused(Error::SqliteFailure(ErrorCode::OutOfMemory))) =>
+                Err(KeepFault::OutOfMemory),
+            Err(Halt::Refused(_) | Halt::InTransaction | Halt::Unfit) => {
                 self.faults = self.faults.saturating_add(1);
-                KeepFault::Failed
+                Err(KeepFault::Failed)
             }
         }
     }
@@ -193,8 +201,7 @@ impl<S: Alter> Keeper for SqliteKeeper<S> {
             → IfErr result (FailsBy (λ halt. IsBusy halt self.old.connection
             ⊎ Looks S.Store (LosesPhase S.Store halt) self.old.connection self.new.connection)) }
     {
-        let done = transactions::has_season(&mut self.connection);
-        self.settle(done)
+        self.look(AnySeason)
     }
 
     fn put_season(&mut self, text: &[u8]) -> Result<(), KeepFault>
@@ -314,7 +321,6 @@ impl<S: Alter> Keeper for SqliteKeeper<S> {
             → IfErr result (FailsBy (λ halt. IsBusy halt self.old.connection
             ⊎ Looks S.Store (LosesKept S.Store halt) self.old.connection self.new.connection)) }
     {
-        let done = transactions::load(&mut self.connection, alloc);
-        self.settle(done)
+        self.look(Everything(alloc))
     }
 }

@@ -19,6 +19,7 @@ mod halt;
 mod keeper;
 pub mod laws;
 mod lift;
+mod looks;
 mod numbers;
 mod phase;
 mod records;

@@ -1,8 +1,6 @@
 // The table of raises.
 ghost use Rattle.std.specs.Prelude.{◌≡◌, [], ◌∷◌, codes, IfOk, IfErr, OnOk, Bool, Some, List};
-ghost use Rattle.sqlite.specs.declared.error.Error.{Error};
 ghost use Rattle.keeper_sqlite.specs.Inside.{Acts, IsClean, Performs, StaysInside, content};
-ghost use Rattle.keeper_sqlite.specs.declared.halt.Halt.TheVariants.{Refused};
 ghost use Rattle.keeper_sqlite.specs.Columns.{IsRaiseRow};
 ghost use Rattle.keeper_sqlite.specs.Kept.{Ran, TellsRecords, raises_query, lift_table, raise_text, raise_values};
 ghost use Rattle.stored_tables.specs.Layout.{stored};
@@ -12,7 +10,7 @@ ghost use Rattle.kept_rows.specs.declared.rows.RaiseRow.{RaiseRow};
 ghost use Rattle.keeper_sqlite.specs.Stops.{StopsIn, LosesRecords};
 ghost use Rattle.keeper_sqlite.specs.Kept.Call.{Runs, Asks};
 
-use crate::calls::{ask, run};
+use crate::calls::{Act, perform_one};
 use crate::columns::{expect_number, small_number_at, step_at};
 use crate::halt::Halt;
 use crate::records::StoredRow;
@@ -26,20 +24,21 @@ pub(crate) fn insert<S: Alter>(tx: &mut Transaction<'_, S>, row: RaiseRow) -> Re
     ensures inside { StaysInside S.Store tx.old.conn tx.new.conn }
     ensures acts { Acts S.Store (λ _. Ran S.Store raise_text (raise_values row)) (StopsIn S.Store
         (Runs raise_text (raise_values row) ∷ [])) tx.old.conn tx.new.conn result }
-    ensures halts { IfErr result (λ halt. (error : Error) × (halt ≡ Refused error)) }
     ensures put { (strict : Bool) → IsClean S.Store tx.new.conn.now
         → tx.old.conn.now.schema ≡ stored strict → OnOk result
         (PutsRaise row (content S.Store tx.old.conn.now) (content S.Store tx.new.conn.now)) }
 {
-    run(
+    perform_one(
         tx,
-        "INSERT INTO lift (win, prog, step, seats) VALUES (?1, ?2, ?3, ?4)",
-        params![
-            u32::from(row.window),
-            u32::from(row.prog.0),
-            u32::from(step_number(row.step)),
-            u32::from(row.seats)
-        ],
+        Act::Run(
+            "INSERT INTO lift (win, prog, step, seats) VALUES (?1, ?2, ?3, ?4)",
+            params![
+                u32::from(row.window),
+                u32::from(row.prog.0),
+                u32::from(step_number(row.step)),
+                u32::from(row.seats)
+            ],
+        ),
     )
 }
 

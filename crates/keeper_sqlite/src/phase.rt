@@ -9,7 +9,7 @@ ghost use Rattle.stored_tables.specs.Puts.{OpensPhase, PutsCuts};
 ghost use Rattle.keeper_sqlite.specs.Stops.{LosesPhase};
 ghost use Rattle.keeper_sqlite.specs.Kept.Call.{Runs, Places};
 
-use crate::calls::{ask, place, run};
+use crate::calls::{Act, ask, perform_one};
 use crate::columns::{number_at, small_number_at};
 use crate::halt::Halt;
 use sqlite::{Alter, Row, Transaction, params};
@@ -26,10 +26,12 @@ pub(crate) fn insert<S: Alter>(tx: &mut Transaction<'_, S>) -> Result<(), Halt>
         → tx.old.conn.now.schema ≡ stored strict → OnOk result
         (OpensPhase (content S.Store tx.old.conn.now) (content S.Store tx.new.conn.now)) }
 {
-    place(
+    perform_one(
         tx,
-        "INSERT INTO phase (id, cuts) SELECT ?1, 0 WHERE NOT EXISTS (SELECT id FROM phase)",
-        params![ID],
+        Act::Place(
+            "INSERT INTO phase (id, cuts) SELECT ?1, 0 WHERE NOT EXISTS (SELECT id FROM phase)",
+            params![ID],
+        ),
     )
 }
 
@@ -42,10 +44,12 @@ pub(crate) fn upsert<S: Alter>(tx: &mut Transaction<'_, S>, cuts: u16) -> Result
         ≡ stored strict → (n : ℕ) → phase_shown S.Store tx.old.conn.now ≡ Some (Some n) → OnOk
         result (PutsCuts cuts (content S.Store tx.old.conn.now) (content S.Store tx.new.conn.now)) }
 {
-    run(
+    perform_one(
         tx,
-        "INSERT INTO phase (id, cuts) VALUES (?1, ?2) ON CONFLICT (id) DO UPDATE SET cuts = excluded.cuts",
-        params![ID, u32::from(cuts)],
+        Act::Run(
+            "INSERT INTO phase (id, cuts) VALUES (?1, ?2) ON CONFLICT (id) DO UPDATE SET cuts = excluded.cuts",
+            params![ID, u32::from(cuts)],
+        ),
     )
 }
 

@@ -22,18 +22,23 @@ pub(crate) fn create<S: Alter>(tx: &mut Transaction<'_, S>) -> Result<(), Halt>
         &[
             Act::Run(
                 "CREATE TABLE IF NOT EXISTS season (part INTEGER PRIMARY KEY, bytes BLOB NOT NULL) STRICT",
+                &[],
             ),
             Act::Run(
                 "CREATE TABLE IF NOT EXISTS answer (seq INTEGER PRIMARY KEY, win INTEGER NOT NULL, cand INTEGER NOT NULL, turn INTEGER NOT NULL, choice INTEGER NOT NULL, UNIQUE (win, cand, turn)) STRICT",
+                &[],
             ),
             Act::Run(
                 "CREATE TABLE IF NOT EXISTS allot (rnd INTEGER NOT NULL, cand INTEGER NOT NULL, prog INTEGER NOT NULL, step INTEGER NOT NULL, PRIMARY KEY (rnd, cand)) STRICT",
+                &[],
             ),
             Act::Run(
                 "CREATE TABLE IF NOT EXISTS phase (id INTEGER PRIMARY KEY, cuts INTEGER NOT NULL) STRICT",
+                &[],
             ),
             Act::Run(
                 "CREATE TABLE IF NOT EXISTS lift (seq INTEGER PRIMARY KEY, win INTEGER NOT NULL, prog INTEGER NOT NULL, step INTEGER NOT NULL, seats INTEGER NOT NULL) STRICT",
+                &[],
             ),
         ],
     )

@@ -7,10 +7,10 @@ use Rattle.keeper_sqlite.proofs.answer.insert.Goals as goal
 
 pub returns-clause-acts : goal.returns-clause-acts
 returns-clause-acts g c =
-    let acts = same_values g.S.Store (Runs answer_text) _ (answer_values c.args.row) c.args.tx.now.conn c.run.new.tx.conn c.run.result (search rules) c.run.ensures.acts in
-    record { done = ran_alone g.S.Store answer_text (answer_values c.args.row) c.args.tx.now.conn.now c.run.new.tx.conn.now c.run.result acts.done; lost = acts.lost }
+    let acts = same_values g.S.Store (Runs answer_text) _ (answer_values c.args.row) c.args.tx.now.conn c.perform_one.new.tx.conn c.perform_one.result (search rules) c.perform_one.ensures.acts in
+    record { done = ran_alone g.S.Store answer_text (answer_values c.args.row) c.args.tx.now.conn.now c.perform_one.new.tx.conn.now c.perform_one.result acts.done; lost = acts.lost }
 
 pub returns-clause-put : goal.returns-clause-put
 returns-clause-put g c = λ strict clean has.
-    let acts = same_values g.S.Store (Runs answer_text) _ (answer_values c.args.row) c.args.tx.now.conn c.run.new.tx.conn c.run.result (search rules) c.run.ensures.acts in
-    answer_put g.S.Store strict c.args.row c.args.tx.now.conn.now c.run.new.tx.conn.now c.run.result (record { window = search rules; cand = search rules; turn = search rules }) has acts.done clean
+    let acts = same_values g.S.Store (Runs answer_text) _ (answer_values c.args.row) c.args.tx.now.conn c.perform_one.new.tx.conn c.perform_one.result (search rules) c.perform_one.ensures.acts in
+    answer_put g.S.Store strict c.args.row c.args.tx.now.conn.now c.perform_one.new.tx.conn.now c.perform_one.result (record { window = search rules; cand = search rules; turn = search rules }) has acts.done clean

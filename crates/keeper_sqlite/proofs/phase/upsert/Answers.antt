@@ -6,9 +6,9 @@ use Rattle.std.proofs.Common.{rules}
 use Rattle.keeper_sqlite.proofs.phase.upsert.Goals as goal
 
 pub returns-clause-acts : goal.returns-clause-acts
-returns-clause-acts g c = same_values g.S.Store (Runs cuts_text) _ (cuts_values c.args.cuts) c.args.tx.now.conn c.run.new.tx.conn c.run.result (search rules) c.run.ensures.acts
+returns-clause-acts g c = same_values g.S.Store (Runs cuts_text) _ (cuts_values c.args.cuts) c.args.tx.now.conn c.perform_one.new.tx.conn c.perform_one.result (search rules) c.perform_one.ensures.acts
 
 pub returns-clause-put : goal.returns-clause-put
 returns-clause-put g c = λ strict clean has n stood.
-    let acts = same_values g.S.Store (Runs cuts_text) _ (cuts_values c.args.cuts) c.args.tx.now.conn c.run.new.tx.conn c.run.result (search rules) c.run.ensures.acts in
-    cuts_put g.S.Store strict n c.args.cuts c.args.tx.now.conn.now c.run.new.tx.conn.now c.run.result (search rules) has stood acts.done clean
+    let acts = same_values g.S.Store (Runs cuts_text) _ (cuts_values c.args.cuts) c.args.tx.now.conn c.perform_one.new.tx.conn c.perform_one.result (search rules) c.perform_one.ensures.acts in
+    cuts_put g.S.Store strict n c.args.cuts c.args.tx.now.conn.now c.perform_one.new.tx.conn.now c.perform_one.result (search rules) has stood acts.done clean

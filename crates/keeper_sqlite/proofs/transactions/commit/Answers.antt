@@ -1,13 +1,7 @@
 use Rattle.keeper_sqlite.proofs.ActLemmas.{broken}
 use Rattle.keeper_sqlite.proofs.LossLemmas.{change_lost}
-use Rattle.keeper_sqlite.specs.Stops.{Breaks, Loses}
-use Rattle.std.proofs.Common.{◌≡◌, false, sym, OnOk, OnErr, IsTrue, subst, rules, refl, arith, inl, IfErr}
-use Rattle.sqlite.specs.State.{HasCleanDisk, IsLive, Survives}
-use Rattle.sqlite.specs.Held.{state}
-use Rattle.keeper_sqlite.specs.Commits.{CommitsOnce}
-use Rattle.keeper_sqlite.specs.Kept.{Keeps, Makes, MadeBy}
+use Rattle.std.proofs.Common.{◌≡◌, rules, refl, arith, inl}
 use Rattle.keeper_sqlite.proofs.CommitLemmas.{once_same, once_made, shown_by, made_same, made_once, kept_made, on_err}
-use Rattle.stored_tables.specs.Told.{told}
 use Rattle.keeper_sqlite.proofs.KeeperLemmas.{put_back}
 use Rattle.keeper_sqlite.proofs.transactions.commit.Goals as goal
 
@@ -18,7 +12,7 @@ pub returns-clause-once : goal.returns-clause-once
 returns-clause-once g c =
     let last = c.settle-ended.new.tx.0 in
     let same : last ≡ c.connection-1.given.0 = search rules in
-    subst (λ h. CommitsOnce (state g.S.Store c.args.connection.now) (state g.S.Store h)) same
+    rw (← same)
     (once_made g.S.Store _ _ c.write-done.new.tx.conn.now last c.transaction-begun.ensures.begun c.write-done.ensures.inside.1 (shown_by g.S.Store c.write-done.result c.write-done.new.tx.conn.now last c.settle-ended.ensures.shown))
 
 pub returns-in_err-expect_free-clause-made : goal.returns-in_err-expect_free-clause-made
@@ -28,14 +22,14 @@ pub returns-clause-made : goal.returns-clause-made
 returns-clause-made g c =
     let last = c.settle-ended.new.tx.0 in
     let same : last ≡ c.connection-1.given.0 = search rules in
-    subst (λ h. Survives (state g.S.Store c.args.connection.now) (state g.S.Store h) (MadeBy g.S.Store c.args.change c.args.connection.now)) same
+    rw (← same)
     (made_once g.S.Store c.args.change c.args.connection.now _ c.write-done.new.tx.conn.now last c.write-done.result c.transaction-begun.ensures.begun c.write-done.ensures.inside.1 (λ clean _. c.write-done.ensures.acts.done clean) c.settle-ended.ensures.shown)
 
 pub returns-clause-kept : goal.returns-clause-kept
 returns-clause-kept g c =
     let last = c.settle-ended.new.tx.0 in
     let same : last ≡ c.connection-1.given.0 = search rules in
-    subst (λ h. HasCleanDisk (state g.S.Store h) → OnOk c.settle-ended.result (Keeps g.S.Store (Makes g.S.Store c.args.change) c.args.connection.now h)) same
+    rw (← same)
     (kept_made g.S.Store c.args.change _ _ c.write-done.new.tx.conn.now last c.write-done.result c.settle-ended.result c.transaction-begun.ensures.begun (λ clean _. c.write-done.ensures.acts.done clean) c.settle-ended.ensures.shown c.settle-ended.ensures.ended.1 c.settle-ended.ensures.now c.settle-ended.ensures.committed
     c.settle-ended.ensures.shows)
 
@@ -47,9 +41,9 @@ returns-clause-stays_err g c =
     let last = c.settle-ended.new.tx.0 in
     let mid = c.write-done.new.tx.conn.now in
     let same : last ≡ c.connection-1.given.0 = search rules in
-    subst (λ h. HasCleanDisk (state g.S.Store h) → IsTrue (state g.S.Store h).is_open → OnErr c.settle-ended.result (told (state g.S.Store h) ≡ told (state g.S.Store c.args.connection.now))) same
-    let live = subst (λ h. IsLive (state g.S.Store h)) (sym same) c.at_rest-2.ensures.live in
-    let after = subst (λ h. h.in_transaction ≡ false → IsTrue (state g.S.Store h).is_open → (state g.S.Store h).now ≡ (state g.S.Store h).committed) (sym same) c.at_rest-2.ensures.settled in
+    let live = rw (← same) at c.at_rest-2.ensures.live in
+    let after = rw (← same) at c.at_rest-2.ensures.settled in
+    rw (← same)
     (put_back g.S.Store c.args.connection.now c.transaction-begun.result.conn.now mid last c.settle-ended.result c.transaction-begun.ensures.begun (g.met.S.Store.settled c.args.connection.now.store) (g.met.S.Store.stays mid.store)
     c.at_rest.ensures.live live c.write-done.ensures.inside.1 (c.at_rest.ensures.settled (search rules)) (after c.settle-ended.ensures.ended.0) (λ sound. omega (arith, sound, c.settle-ended.ensures.shown.clean)) c.settle-ended.ensures.back)
 
@@ -60,5 +54,5 @@ pub returns-clause-lost : goal.returns-clause-lost
 returns-clause-lost g c =
     let last = c.settle-ended.new.tx.0 in
     let same : last ≡ c.connection-1.given.0 = search rules in
-    subst (λ h. HasCleanDisk (state g.S.Store h) → IfErr c.settle-ended.result (λ halt. Loses g.S.Store (Breaks g.S.Store c.args.change) (Makes g.S.Store c.args.change) halt c.args.connection.now h)) same
+    rw (← same)
     (change_lost g.S.Store c.args.change c.args.connection.now _ c.write-done.new.tx.conn.now last c.write-done.result c.settle-ended.result c.transaction-begun.ensures.begun c.settle-ended.ensures.shown (λ clean _. c.write-done.ensures.acts.done clean) c.write-done.ensures.acts.lost c.settle-ended.ensures.why)

@@ -1,7 +1,7 @@
 use Rattle.keeper_sqlite.proofs.ActLemmas.{acts_broken}
 use Rattle.keeper_sqlite.proofs.LossLemmas.{tables_lost}
 use Rattle.keeper_sqlite.proofs.CallLemmas.{none_kept, found_kept}
-use Rattle.keeper_sqlite.proofs.transactions.read_records.Goals as goal
+use Rattle.keeper_sqlite.proofs.looks.EverythingLookOptionKept.read.Goals as goal
 
 pub returns-in-None-clause-acts : goal.returns-in-None-clause-acts
 returns-in-None-clause-acts g c = record {

@@ -4,7 +4,7 @@ use Rattle.std.proofs.Common.{refl}
 use Rattle.keeper_sqlite.proofs.CallLemmas.{tables_told}
 use Rattle.keeper_sqlite.proofs.LookLemmas.{tables_loaded}
 use Rattle.sqlite.specs.Held.{state}
-use Rattle.keeper_sqlite.proofs.transactions.read_kept.Goals as goal
+use Rattle.keeper_sqlite.proofs.looks.read_kept.Goals as goal
 
 pub returns-clause-acts : goal.returns-clause-acts
 returns-clause-acts g c = record {
