@@ -76,22 +76,6 @@ impl<'e, L: Listener + Drop, R: Clock + Eprint> LoopbackDoor<'e, L, R> {
     }
 }
 
-// Returns whether an error of `accept` is of a connection that was closed before it was taken, or of a signal.
-fn is_passing(error: &io::Error) -> bool {
-    matches!(
-        error.kind(),
-        ErrorKind::Interrupted | ErrorKind::ConnectionAborted
-    )
-}
-
-// Returns whether an error of `accept` says that the system has no room for another connection.
-fn is_full(error: &io::Error) -> bool {
-    match error.raw_os_error() {
-        Some(code) => NO_ROOM.contains(&code),
-        None => false,
-    }
-}
-
 // Takes the next connection of a listener, and reports the first error.
 // While the system has no room for one it waits, up to a minute in all.
 fn next_stream<L: Listener, R: Clock + Eprint>(
@@ -106,10 +90,19 @@ fn next_stream<L: Listener, R: Clock + Eprint>(
     for _ in 0..TRIES {
         match listener.accept() {
             Ok(stream) => return Ok(stream),
-            Err(error) if is_passing(&error) => {}
+            // It was closed before it was taken, or a signal came.
+            Err(error)
+                if matches!(
+                    error.kind(),
+                    ErrorKind::Interrupted | ErrorKind::ConnectionAborted
+                ) => {}
             Err(error) => {
                 edge.report_accept(&error);
-                if PAUSES <= pauses || !is_full(&error) {
+                let has_no_room = match error.raw_os_error() {
+                    Some(code) => NO_ROOM.contains(&code),
+                    None => false,
+                };
+                if PAUSES <= pauses || !has_no_room {
                     return Err(error);
                 }
                 pauses += 1;
@@ -151,15 +144,6 @@ fn read_away<S: Read + OpenStream, R: Clock + Eprint>(
         }
     }
     Ok(())
-}
-
-// Ends a connection, so that the other side sees the end of what was written.
-// What the other side still sends is read away first.
-// Otherwise the system would answer unread bytes by taking back what the other side has not read.
-fn end<S: Read + OpenStream + Drop, R: Clock + Eprint>(mut stream: S, edge: &Edge<R>) {
-    if stream.shutdown(Shutdown::Write).is_ok() {
-        let _ = read_away(&mut stream, edge);
-    }
 }
 
 impl<'e, L: Listener + Drop, R: Clock + Eprint> Door for LoopbackDoor<'e, L, R> {
@@ -204,8 +188,13 @@ impl<'e, L: Listener + Drop, R: Clock + Eprint> Door for LoopbackDoor<'e, L, R> 
         Ok(Some(link))
     }
 
+    // The other side sees the end of what was written. What it still sends is read away first: otherwise the system would
+    // answer unread bytes by taking back what the other side has not read.
     fn give_back(&mut self, conn: LoopbackLink<'e, L::Stream, R>) {
         self.out -= 1;
-        end(conn.into_stream(), self.edge);
+        let mut stream = conn.into_stream();
+        if stream.shutdown(Shutdown::Write).is_ok() {
+            let _ = read_away(&mut stream, self.edge);
+        }
     }
 }

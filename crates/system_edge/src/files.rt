@@ -1,6 +1,6 @@
 // A file, opened and closed as a keeper.
-ghost use Rattle.std.specs.Prelude.{◌≡◌, IfSome, IsTrue, false, true};
-ghost use Rattle.system_edge.specs.Tables.{HasTables, HoldsFiles, IsOpenedOver};
+ghost use Rattle.std.specs.Prelude.{IfSome, IsTrue, false, true};
+ghost use Rattle.system_edge.specs.Tables.{HoldsFiles, IsOpenedOver};
 ghost use Rattle.sqlite.specs.Held.{IsNew};
 ghost use Rattle.sqlite_std_file.specs.File.{IsFresh, file_is_usable};
 ghost use Rattle.sqlite_wal.specs.Files.{image_at};
@@ -8,7 +8,7 @@ ghost use Rattle.sqlite_wal.specs.Files.{image_at};
 use crate::stores::open_store;
 use keeper_sqlite::SqliteKeeper;
 use office_base::Text;
-use sqlite::{Alter, Connection, FileFrom, FileStore, Files, Options, Start};
+use sqlite::{Connection, FileFrom, FileStore, Files, Options, Start};
 use std::hash::{BuildHasher, RandomState};
 use std::str;
 
@@ -23,7 +23,11 @@ pub fn open_keeper<S: Start>(rt: &HostRuntime, name: &Text, start: S) -> Option<
     ensures { IfSome result (HoldsFiles (image_at S.Start)) }
 {
     let connection = open_file(rt, name, start)?;
-    with_tables(SqliteKeeper::new(connection))
+    let mut keeper = SqliteKeeper::new(connection);
+    match keeper.make_tables() {
+        Ok(()) => Some(keeper),
+        Err(_) => None,
+    }
 }
 
 /// Closes the file. What was kept is in the file and in the log next to it,
@@ -31,6 +35,10 @@ pub fn open_keeper<S: Start>(rt: &HostRuntime, name: &Text, start: S) -> Option<
 pub fn close_keeper<S: Start>(keeper: FileKeeper<S>) {
     let _ = keeper.into_connection().close();
 }
+
+// How many pages of the database are kept in memory once they were read: 33 MB of them. The database tests all keys when it
+// opens a store, and with a cache of 8 MB it reads most pages of a large store several times.
+const CACHE_PAGES: usize = 8_000;
 
 // Opens the file of this name.
 fn open_file<S: Start>(
@@ -43,7 +51,12 @@ fn open_file<S: Start>(
 {
     let path = str::from_utf8(name.as_slice()).ok()?;
     let files = open_pair(rt, path, start)?;
-    let options = options(rt)?;
+    // a number drawn at random, for the salts of the log
+    let seed = RandomState::new(rt).ok()?.hash_one(&0u8);
+    let options = Options {
+        cache_pages: CACHE_PAGES,
+        ..Options::new(seed)
+    };
     match open_store(rt.alloc(), files, options) {
         Ok(connection) => Some(connection),
         Err(_unopened) => None,
@@ -61,28 +74,4 @@ fn open_pair<S: Start>(rt: &HostRuntime, path: &str, start: S) -> Option<Files<F
         return None;
     }
     sqlite_std_file::open(rt, path, start).ok()
-}
-
-// How many pages of the database are kept in memory once they were read: 33 MB of them. The database tests all keys when it
-// opens a store, and with a cache of 8 MB it reads most pages of a large store several times.
-const CACHE_PAGES: usize = 8_000;
-
-// Returns the options of an open, with a number drawn at random for the salts of the log.
-fn options(rt: &HostRuntime) -> Option<Options> {
-    let seed = RandomState::new(rt).ok()?.hash_one(&0u8);
-    Some(Options {
-        cache_pages: CACHE_PAGES,
-        ..Options::new(seed)
-    })
-}
-
-// The keeper over a new connection, with its tables.
-fn with_tables<S: Alter + Drop>(mut keeper: SqliteKeeper<S>) -> Option<SqliteKeeper<S>>
-    requires { keeper.faults ≡ 0 }
-    ensures { IfSome result (HasTables S.Store keeper.connection) }
-{
-    match keeper.make_tables() {
-        Ok(()) => Some(keeper),
-        Err(_) => None,
-    }
 }

@@ -3,7 +3,7 @@ ghost use Rattle.std.specs.Prelude.{◌≡◌, ◌+◌, ◌≤◌, ◌<◌, ◌�
 ghost use Rattle.sqlite_wal.specs.Format.{IsSigned, be32};
 ghost use Rattle.sqlite_wal.specs.Recovery.{header};
 ghost use Rattle.sqlite_wal.specs.Reads.{IsClean, OnlyReads};
-ghost use Rattle.system_edge.specs.Heads.{HasMagicEnd, HasSoundHead, IsMarkedEmpty, begins};
+ghost use Rattle.system_edge.specs.Heads.{HasMagicEnd, HasSoundHead, IsMarkedEmpty};
 
 use sqlite_disk::Disk;
 use sqlite_wal::checksum_of;
@@ -28,23 +28,12 @@ pub fn has_sound_head<D: Disk>(log: &mut D) -> io::Result<bool>
         return Ok(true);
     }
     if len < HEAD_LEN {
-        let first = read_first(log)?;
-        return Ok(first == 0);
+        let mut first = [0; 1];
+        log.read_at(0, &mut first)?;
+        return Ok(first[0] == 0);
     }
     let head = read_head(log)?;
     Ok(is_signed(&head) || is_marked_empty(&head, len))
-}
-
-// Reads the first byte of a log.
-fn read_first<D: Disk>(log: &mut D) -> io::Result<u8>
-    requires { IsTrue (D.Disk.is_usable log.old) }
-    ensures first { IfOk result (λ byte. IsClean D.Disk log.new
-        → begins (D.Disk.seen log.old) ≡ byte) }
-    ensures same { OnlyReads D.Disk log.old log.new }
-{
-    let mut bytes = [0; 1];
-    log.read_at(0, &mut bytes)?;
-    Ok(bytes[0])
 }
 
 /// Reads the head of a log.

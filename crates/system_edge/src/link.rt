@@ -64,7 +64,9 @@ impl<'e, S: Read + Write + OpenStream + Drop, R: Clock + Eprint> LoopbackLink<'e
         ensures faults { IfOk result (λ link. link.faults ≡ 0) }
     {
         let wait = Duration::from_secs(WAIT);
-        set_up(&stream, wait)?;
+        stream.set_nodelay(true)?;
+        stream.set_read_timeout(Some(wait))?;
+        stream.set_write_timeout(Some(wait))?;
         Ok(LoopbackLink {
             stream,
             edge,
@@ -127,17 +129,6 @@ impl<'e, S: Read + Write + OpenStream + Drop, R: Clock + Eprint> LoopbackLink<'e
         Ok(())
     }
 
-    // Notes that bytes of a message came.
-    fn end_read(&mut self)
-        ensures faults { self.new.faults ≡ self.old.faults }
-        ensures stream { self.new.stream ≡ self.old.stream }
-    {
-        if self.stage != Stage::Message {
-            self.stage = Stage::Message;
-            self.began = None;
-        }
-    }
-
     // Sets how long the next write waits. The first write of an answer may be reported.
     fn begin_write(&mut self, piece: &[u8]) -> io::Result<()>
         ensures faults { self.new.faults ≡ self.old.faults }
@@ -159,13 +150,6 @@ impl<'e, S: Read + Write + OpenStream + Drop, R: Clock + Eprint> LoopbackLink<'e
         }
         Ok(())
     }
-}
-
-// Sets how long each read and write of a stream waits, and has it send at once what is written.
-fn set_up<S: OpenStream>(stream: &S, wait: Duration) -> io::Result<()> {
-    stream.set_nodelay(true)?;
-    stream.set_read_timeout(Some(wait))?;
-    stream.set_write_timeout(Some(wait))
 }
 
 #[tactic(auto, using(crate::proofs::Known::read_after, crate::proofs::Known::keeps_same, crate::proofs::Known::keeps_twice))]
@@ -219,7 +203,10 @@ impl<'e, S: Read + Write + OpenStream + Drop, R: Clock + Eprint> Link for Loopba
         }
         match read_uninterrupted(&mut self.stream, buf) {
             Ok(count) => {
-                self.end_read();
+                if self.stage != Stage::Message {
+                    self.stage = Stage::Message;
+                    self.began = None;
+                }
                 Ok(count)
             }
             Err(_) => Err(self.failed()),

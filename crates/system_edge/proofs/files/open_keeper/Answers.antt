@@ -1,8 +1,12 @@
+use Rattle.std.proofs.Common.{refl, ◌≡◌, ◌∙◌, Some}
 use Rattle.sqlite_wal.specs.Files.{image_at}
-use Rattle.system_edge.proofs.Opened.{holds_files}
+use Rattle.system_edge.proofs.Opened.{has_tables, holds_files}
 use Rattle.system_edge.proofs.files.open_keeper.Goals as goal
 
-pub returns : goal.returns
-returns g c =
+pub returns-in-Ok : goal.returns-in-Ok
+returns-in-Ok g c =
     let opened = c.in_ok-connection.ensures in
-    holds_files (image_at g.S.Start) c.in_ok-connection.connection c.new.result opened.fresh opened.opened c.new.ensures c.with_tables.result c.with_tables.ensures
+    let zero : c.new-keeper.result.faults ≡ 0 = rw c.new-keeper.ensures refl in
+    let none : c.make_tables.new.self.faults ≡ 0 = c.in-Ok.ensures.blamed.steady (λ failed. let e = failed in cc) ∙ zero in
+    holds_files (image_at g.S.Start) c.in_ok-connection.connection c.new-keeper.result opened.fresh opened.opened c.new-keeper.ensures (Some c.make_tables.new.self)
+    (has_tables c.new-keeper.result.connection c.make_tables.new.self c.in-Ok.ensures.kept none c.in-Ok.ensures.once c.in-Ok.ensures.fresh c.in-Ok.ensures.older c.in-Ok.ensures.whole)
