@@ -80,12 +80,13 @@ fn is_kind(row: &Rows<'_>, name: &[u8], count: usize) -> bool
 fn read_ask(row: &Rows<'_>) -> Option<Ask>
     ensures { result ≡ ask_of row.now.row }
 {
+    if is_kind(row, b"answer".as_slice(), 6) {
+        return read_answer(row);
+    }
     let cand = read_candidate(row.field(2));
     let window = read_window(row.field(2));
     let prog = Code::read(row.field(3));
-    if is_kind(row, b"answer".as_slice(), 6) {
-        read_answer(row)
-    } else if is_kind(row, b"cut".as_slice(), 3) {
+    if is_kind(row, b"cut".as_slice(), 3) {
         Some(Ask::Cut { window: window? })
     } else if is_kind(row, b"seat".as_slice(), 3) {
         Some(Ask::Seat { cand: cand? })
