@@ -117,7 +117,7 @@ module _ (laws : AreLawful) (version : ℕ) (seats : ProgrammeSeats) (before : A
 -- a choice from some people is a choice from those admitted
 pub settled : AreLawful → (version : ℕ) (seats : ProgrammeSeats) (all : List Person) (held : List (List Person)) → IsVersion version → AreProgrammeSeats seats → length held ≡ length all_steps
     → AreApplicants seats.list all → ChoosesFrom version seats all (by_number held) → IsProgrammeKept (record { version = version; seats = seats; held = held })
-settled laws version seats all held is_version ok six may choice =
+settled laws version seats all held is_version ok each may choice =
     let after = by_number held in
     let once = sets.admitted_once laws version seats all after ok may choice in
     let now = everybody after in
@@ -126,7 +126,7 @@ settled laws version seats all held is_version ok six may choice =
     let same : again.0 ≡ after = sets.leaving_out_the_refused laws version seats now all again.0 after
     (record { are_seats = ok; distinct = once.0; may = may; part = once.1; choice = again.1; more_choice = choice })
     (λ other here out kind there. out (widen other (after kind) now (in_everybody after kind) there)) in
-    record { is_version = is_version; are_seats = ok; all_there = six; may = now_may; choice = subst (ChoosesFrom version seats now) same again.1 }
+    record { is_version = is_version; are_seats = ok; all_there = each; may = now_may; choice = subst (ChoosesFrom version seats now) same again.1 }
 
 none_of_none : {X : Type 0} (n : ℕ) → ◌≡◌ {A = List X} [] (take n [])
 none_of_none zero = refl
@@ -168,7 +168,7 @@ answer_taken before after person leaver e out = subst (λ (o : Option Person). L
 pub answer_refused : AreLawful → (before after : ProgrammeKept) (person gone : Person) (leaver : Option Person) → after ≡ record before { held = after.held } → length after.held ≡ length all_steps → IsProgrammeKept before
     → AreApplicants before.seats.list (person ∷ everybody (admissions_of before)) → ChoosesFrom before.version before.seats (person ∷ everybody (admissions_of before)) (admissions_of after)
     → leaver ≡ Some gone → gone.id ≡ person.id → LeavesOut (admissions_of before) person leaver (admissions_of after) → IsAnswered before person Refused after
-answer_refused laws before after person gone leaver stays six kept may choice e same out =
+answer_refused laws before after person gone leaver stays each kept may choice e same out =
     let held = everybody (admissions_of before) in
     let all = person ∷ held in
     let left = subst (λ (o : Option Person). LeavesOut (admissions_of before) person o (admissions_of after)) e out in
@@ -184,7 +184,7 @@ answer_refused laws before after person gone leaver stays six kept may choice e 
           )
       | inr held_too ↦ absurd (gone_too held_too)
     ]) in
-    let lists : after.held ≡ before.held = sym (held_listed after.held six) ∙ ap (λ (a : Admissions). map a all_steps) (sym equal) ∙ held_listed before.held kept.all_there in
+    let lists : after.held ≡ before.held = sym (held_listed after.held each) ∙ ap (λ (a : Admissions). map a all_steps) (sym equal) ∙ held_listed before.held kept.all_there in
     stays ∙ ap (λ (some : List (List Person)). let kept : ProgrammeKept = record before { held = some } in kept) lists
 
 pub answer_displaced : (before after : ProgrammeKept) (person gone : Person) (leaver : Option Person) → AreApplicants before.seats.list (person ∷ everybody (admissions_of before))

@@ -89,7 +89,7 @@ returns-clause-answer g c =
     c.hand_common-by_open.new.step c.hand_common-by_open.result c.hand_common-by_open.ensures.offered c.hand_down-coming.new.categories c.hand_down-coming.result c.hand_down-coming.ensures
     c.held_by_steps-held.result c.held_by_steps-held.ensures c.left_unfilled-empty.result c.left_unfilled-empty.ensures c.keep_best.result c.keep_best.new.people.items c.keep_best.ensures.last
     c.offers_leave_one.ensures in
-    let six = all_there c.step_laws.ensures _ _ _ _ _ _ c.self.invariant c.self.view_is c.requires _ refl
+    let each = all_there c.step_laws.ensures _ _ _ _ _ _ c.self.invariant c.self.view_is c.requires _ refl
     c.hand_common-by_open.new.step c.hand_common-by_open.result c.hand_common-by_open.ensures.offered c.hand_down-coming.new.categories c.hand_down-coming.result c.hand_down-coming.ensures
     c.keep_best.new.people.items in
     let old : ProgrammeKept = record { version = inside.version; seats = inside.seats; held = people_held inside.open_step inside.categories inside.dereserved.items } in
@@ -106,7 +106,7 @@ returns-clause-answer g c =
       | in-Some+then-eq w ↦
           let gone = w.in-Some.gone in
           let same : gone.id ≡ person.id = ap (λ (n : ℕ). let cand : CandId = record { 0 = n } in cand) (eqb-true gone.id.0 person.id.0 (sym w.eq.ensures ∙ w.if-eq.true)) in
-          subst answers (sym w.result-is) (done Refused (answer_refused c.step_laws.ensures old now person gone c.keep_best.result refl six c.self.invariant.kept may choice w.in-Some.is same out))
+          subst answers (sym w.result-is) (done Refused (answer_refused c.step_laws.ensures old now person gone c.keep_best.result refl each c.self.invariant.kept may choice w.in-Some.is same out))
       | in-Some+else-eq w ↦
           let gone = w.in-Some.gone in
           let apart : gone.id ≡ person.id → ⊥ = λ same. eqb-false gone.id.0 person.id.0 (sym w.eq.ensures ∙ w.if-eq.false) (ap (λ (cand : CandId). cand.0) same) in
