@@ -13,7 +13,7 @@ use season_audit::audit;
 use std::alloc::Global;
 
 /// The result of an audit, with its lines.
-#[derive(Debug, Drop)]
+#[derive(Drop)]
 pub enum Audited {
     /// No clause is broken, and under `audit best` every round is the best one.
     Sound(Text),

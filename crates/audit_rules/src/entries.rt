@@ -10,7 +10,7 @@ use programme_lists::Programme;
 use std::alloc::Global;
 
 /// That a list names a candidate, for a seat of its programme under its step.
-#[derive(Clone, Copy, Debug)]
+#[derive(Clone, Copy)]
 pub struct Entry {
     pub seat: Seat,
     pub cand: CandId,

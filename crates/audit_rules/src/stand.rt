@@ -9,7 +9,7 @@ use round_options::{Standing, after_cut, allowed, standing_of};
 
 /// What a replay keeps of a candidate: the standing that the last cut left, the last turn of the open window (0 if there is
 /// none), the standing now, and the seat of the last round.
-#[derive(Clone, Copy, Debug)]
+#[derive(Clone, Copy)]
 pub struct Stand {
     pub left: Standing,
     pub last: u16,

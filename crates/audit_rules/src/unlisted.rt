@@ -17,7 +17,7 @@ use seat_matrix::Matrix;
 use std::alloc::Global;
 
 /// A candidate, by the place in the register, on whom the lists of a programme and the round's text differ.
-#[derive(Clone, Copy, Debug)]
+#[derive(Clone, Copy)]
 pub struct Miss {
     pub prog: ProgId,
     pub at: usize,

@@ -3,7 +3,7 @@ use list_audit::Clause;
 use office_base::{CandId, ProgId};
 
 /// What an audit comes to.
-#[derive(Clone, Copy, Debug, PartialEq, Eq)]
+#[derive(Clone, Copy, PartialEq, Eq)]
 pub enum Verdict {
     /// No clause is broken. So many rounds are published, at most 10.
     Sound {

@@ -5,7 +5,7 @@ ghost use Rattle.command_answers.specs.declared.failure.Failure.TheVariants.{NoM
 use office_base::{OutOfMemory, Text};
 
 /// Why a command has no output.
-#[derive(Debug, Drop)]
+#[derive(Drop)]
 pub enum Failure {
     /// The source failed.
     Read,

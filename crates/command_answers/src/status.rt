@@ -3,7 +3,7 @@ ghost use Rattle.std.specs.Prelude.{◌≡◌};
 ghost use Rattle.command_answers.specs.Status.{code_of};
 
 /// How `allocate` ended. The numbers are the exit statuses of the program.
-#[derive(Clone, Copy, Debug, PartialEq, Eq)]
+#[derive(Clone, Copy, PartialEq, Eq)]
 pub enum Status {
     /// The source was read to its end by a command that reads it, and all output was taken.
     Ok = 0,

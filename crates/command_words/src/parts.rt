@@ -10,7 +10,7 @@ use clap::{Arg, ArgMatches, Command as Parser, Error};
 use std::alloc::{AllocError, Global};
 
 /// The words of a command line, each in its place.
-#[derive(Clone, Copy, Debug)]
+#[derive(Clone, Copy)]
 pub struct Parts<'a> {
     pub command: Option<&'a str>,
     pub first: Option<&'a str>,

@@ -24,7 +24,7 @@ const MOST_WORKERS: u32 = 64;
 const LAST_PORT: u32 = 65_535;
 
 /// A command of the office.
-#[derive(Debug, Drop)]
+#[derive(Drop)]
 pub enum Command {
     /// Reads a step sheet and writes whom the step admits.
     Step,
@@ -113,7 +113,7 @@ impl Command {
 
 /// How an office is served: with `workers` workers side by side, each of which takes at most `conns` connections.
 /// `start` says how the office begins, and `port` at which port of this machine it answers.
-#[derive(Clone, Copy, Debug)]
+#[derive(Clone, Copy)]
 pub struct Service {
     pub conns: u32,
     pub workers: u8,
@@ -122,7 +122,7 @@ pub struct Service {
 }
 
 /// How a served office begins.
-#[derive(Clone, Copy, Debug, PartialEq, Eq)]
+#[derive(Clone, Copy, PartialEq, Eq)]
 pub enum Start {
     /// From a season bundle without requests, over a keeper that holds no season.
     New,
@@ -131,7 +131,7 @@ pub enum Start {
 }
 
 /// Where a keeper keeps its records.
-#[derive(Debug, Drop)]
+#[derive(Drop)]
 pub enum Store {
     /// In memory, as long as the program runs.
     Memory,
@@ -152,7 +152,7 @@ impl Store {
 }
 
 /// What is written of a generated season.
-#[derive(Clone, Copy, Debug, PartialEq, Eq)]
+#[derive(Clone, Copy, PartialEq, Eq)]
 pub enum OutKind {
     /// Its bundle.
     Text,

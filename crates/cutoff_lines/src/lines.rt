@@ -12,7 +12,7 @@ use step_cutoffs::Cutoff;
 use step_cutoffs::laws::more_traits_widen;
 
 /// A set of traits, and the cutoff for those who hold them all.
-#[derive(Clone, Copy, Debug, PartialEq, Eq)]
+#[derive(Clone, Copy, PartialEq, Eq)]
 pub struct CutoffLine {
     pub traits: TraitSet,
     pub cutoff: Cutoff,

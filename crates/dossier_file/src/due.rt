@@ -6,7 +6,7 @@ use office_base::{Ask, By, Listed, OutOfMemory, ProgId, Request};
 use std::alloc::Global;
 
 /// A text that is due.
-#[derive(Clone, Copy, Debug, PartialEq, Eq)]
+#[derive(Clone, Copy, PartialEq, Eq)]
 pub enum Due {
     /// The text of the round of this number, from 1.
     Round { number: u16 },

@@ -10,7 +10,7 @@ pub type RoundReads = Listed<RoundRead>;
 pub type ListReads = Listed<ListRead>;
 
 /// What was published: the rounds and the lists in the order of the text, and the final admissions.
-#[derive(Debug, Drop)]
+#[derive(Drop)]
 pub struct Papers {
     pub rounds: RoundReads,
     pub lists: ListReads,

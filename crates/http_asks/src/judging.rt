@@ -13,7 +13,7 @@ use office_base::{Ask, OutOfMemory};
 use std::alloc::Global;
 
 /// The verdict on a message. The connection may continue after either.
-#[derive(Clone, Copy, Debug, PartialEq, Eq)]
+#[derive(Clone, Copy, PartialEq, Eq)]
 pub enum Judged {
     /// It is refused with this status: 404 if its target names no page.
     /// Otherwise 405, with the method that the page has, if its method is another.

@@ -7,7 +7,7 @@ use http_wire::Method;
 use office_base::Ask;
 
 /// A page of the office.
-#[derive(Clone, Copy, Debug, PartialEq, Eq)]
+#[derive(Clone, Copy, PartialEq, Eq)]
 pub enum Page {
     /// It takes a candidate's answer from a body.
     Answers,

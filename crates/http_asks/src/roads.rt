@@ -11,7 +11,7 @@ use crate::pieces::{first_piece, one_piece, read_candidate, read_round, two_piec
 use office_base::{Ask, Code};
 
 /// What the path of a page is for, before its parameters are read.
-#[derive(Clone, Copy, Debug, PartialEq, Eq)]
+#[derive(Clone, Copy, PartialEq, Eq)]
 pub enum Road {
     Answer,
     AnswerList,

@@ -33,7 +33,7 @@ impl Buffers {
 }
 
 /// How a session ended.
-#[derive(Clone, Copy, Debug, PartialEq, Eq)]
+#[derive(Clone, Copy, PartialEq, Eq)]
 pub enum SessionEnd {
     /// The input ended between messages, or a reply closed the connection that was not the hundredth.
     Ended,

@@ -12,7 +12,7 @@ use office_base::{Ask, OutOfMemory, Text};
 use std::alloc::Global;
 
 /// The status of a reply, and its body, for which memory may have run out. What was asked is done either way.
-#[derive(Debug, Drop)]
+#[derive(Drop)]
 pub struct Answered {
     pub status: StatusCode,
     pub body: Result<Text, OutOfMemory>,

@@ -14,7 +14,7 @@ use office_links::Link;
 use std::alloc::Global;
 
 /// What came of the next message.
-#[derive(Clone, Copy, Debug, PartialEq, Eq)]
+#[derive(Clone, Copy, PartialEq, Eq)]
 pub(crate) enum Step {
     /// It is answered.
     Next,

@@ -19,7 +19,7 @@ pub const BODY_ROOM: usize = 8_192;
 const ROOM: usize = 8_448;
 
 /// The bytes of one reply. It reserves its room when it is made, so putting a reply into it never runs out of memory.
-#[derive(Debug, Drop)]
+#[derive(Drop)]
 pub struct Outbox {
     bytes: Vec<u8>,
 }

@@ -15,7 +15,7 @@ use std::marker::Model;
 
 /// Keeps tables in memory. They are visible, and it holds room in advance. The calls with the numbers in `fail_at`,
 /// from 1 over all its methods, answer Failed, and no other call does.
-#[derive(Debug, Drop)]
+#[derive(Drop)]
 pub struct MemKeeper {
     memory: Memory,
     calls: u64,

@@ -8,7 +8,7 @@ use std::alloc::Global;
 use std::marker::Model;
 
 /// The tables of one season, or of none. `spare` is how many answers were promised room, which is there.
-#[derive(Debug, Drop)]
+#[derive(Drop)]
 pub(crate) struct Memory {
     alloc: Global,
     season: Option<Text>,

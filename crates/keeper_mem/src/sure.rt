@@ -9,7 +9,7 @@ use std::alloc::Global;
 use std::marker::Model;
 
 /// Keeps tables in memory. They are visible, and it holds room in advance. It never fails.
-#[derive(Debug, Drop)]
+#[derive(Drop)]
 pub struct SureKeeper {
     memory: Memory,
 }

@@ -6,7 +6,7 @@ use kept_rows::AllotRow;
 use office_base::CandId;
 
 /// The key of a published seat.
-#[derive(Clone, Copy, Debug, PartialEq, Eq)]
+#[derive(Clone, Copy, PartialEq, Eq)]
 pub(crate) struct Key {
     pub round: u16,
     pub cand: CandId,

@@ -2,7 +2,7 @@
 use office_base::{CandId, Choice, Listed, ProgId, StepKind, Text};
 
 /// An accepted answer of a candidate: in which window, at which turn of that window, from 1, and what.
-#[derive(Clone, Copy, Debug, PartialEq, Eq)]
+#[derive(Clone, Copy, PartialEq, Eq)]
 pub struct AnswerRow {
     pub window: u16,
     pub cand: CandId,
@@ -11,7 +11,7 @@ pub struct AnswerRow {
 }
 
 /// An accepted raise: from the cut of this window on, the step of the programme has this many seats.
-#[derive(Clone, Copy, Debug, PartialEq, Eq)]
+#[derive(Clone, Copy, PartialEq, Eq)]
 pub struct RaiseRow {
     pub window: u16,
     pub prog: ProgId,
@@ -20,7 +20,7 @@ pub struct RaiseRow {
 }
 
 /// A published seat. The final admissions have the number of rounds plus 1 as their round.
-#[derive(Clone, Copy, Debug, PartialEq, Eq)]
+#[derive(Clone, Copy, PartialEq, Eq)]
 pub struct AllotRow {
     pub round: u16,
     pub cand: CandId,
@@ -38,7 +38,7 @@ pub type RaiseRows = Listed<RaiseRow>;
 pub type AllotRows = Listed<AllotRow>;
 
 /// All that is kept of a season. `season` is its bundle without the requests.
-#[derive(Debug, Drop)]
+#[derive(Drop)]
 pub struct Kept {
     pub season: Text,
     pub answers: AnswerRows,

@@ -10,7 +10,7 @@ use std::alloc::Global;
 use step_cutoffs::Cutoff;
 
 /// Says with which places a step admits a person who may stand for it and holds all of these traits.
-#[derive(Clone, Copy, Debug, PartialEq, Eq)]
+#[derive(Clone, Copy, PartialEq, Eq)]
 pub struct StepCutoff {
     pub step: StepKind,
     pub traits: TraitSet,

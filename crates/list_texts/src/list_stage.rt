@@ -2,7 +2,7 @@
 use office_base::StepKind;
 
 /// Holds what the line of a step said of it.
-#[derive(Clone, Copy, Debug)]
+#[derive(Clone, Copy)]
 pub(crate) struct OpenStep {
     pub(crate) kind: StepKind,
     pub(crate) seats: u32,
@@ -10,7 +10,7 @@ pub(crate) struct OpenStep {
 }
 
 /// Says which line of a list comes next, with what the lines before it said of the step that is read.
-#[derive(Clone, Copy, Debug)]
+#[derive(Clone, Copy)]
 pub(crate) enum ListStage {
     /// The first line.
     Head,

@@ -18,7 +18,7 @@ use text_readers::{TextFault, codes_are_spelled, read_lines, small_people};
 
 /// Holds the list of a programme as it was read. Seats and candidates are the written ones, and the admitted are those
 /// of the register with the written ids.
-#[derive(Debug, Drop)]
+#[derive(Drop)]
 pub struct ListRead {
     pub round: u16,
     pub prog: ProgId,

@@ -12,14 +12,14 @@ use slot_matching::{Augment, Matching};
 use std::alloc::Global;
 
 /// Whom a step admits, in merit order, and what shows which of its protections they fill.
-#[derive(Debug, Drop)]
+#[derive(Drop)]
 pub struct Chosen {
     pub admitted: People,
     pub cert: Cert,
 }
 
 /// Whom the protections of a step need.
-#[derive(Debug, Drop)]
+#[derive(Drop)]
 struct Needed {
     /// for each of the people, whether the person raises the number of protections honoured by those before
     marks: Listed<bool>,

@@ -14,7 +14,7 @@ use std::alloc::Global;
 use std::marker::Model;
 
 /// What came of a person who was offered to a step.
-#[derive(Clone, Copy, Debug, PartialEq, Eq)]
+#[derive(Clone, Copy, PartialEq, Eq)]
 pub enum Offered {
     /// A seat was free: the person is held, and nobody left.
     Taken,
@@ -25,7 +25,7 @@ pub enum Offered {
 }
 
 /// The seats of a step, and whom they hold of all who were offered so far.
-#[derive(Debug, Drop)]
+#[derive(Drop)]
 pub struct StepState {
     list: ListId,
     seats: u16,

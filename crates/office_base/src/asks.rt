@@ -12,7 +12,7 @@ pub enum Choice {
 }
 
 /// Who asks: the clerk, a candidate, or somebody unknown to the office.
-#[derive(Clone, Copy, Debug, PartialEq, Eq)]
+#[derive(Clone, Copy, PartialEq, Eq)]
 pub enum By {
     Clerk,
     Candidate(CandId),
@@ -22,7 +22,7 @@ pub enum By {
 /// What is asked. Windows are numbered from 0 and rounds from 1;
 /// a turn counts the answers of a candidate in a window, from 1.
 /// A programme is named by its code, which may be the code of none.
-#[derive(Clone, Copy, Debug, PartialEq, Eq)]
+#[derive(Clone, Copy, PartialEq, Eq)]
 pub enum Ask {
     /// A candidate's answer in a window.
     Answer {
@@ -82,7 +82,7 @@ pub enum Ask {
 }
 
 /// Who asks what.
-#[derive(Clone, Copy, Debug, PartialEq, Eq)]
+#[derive(Clone, Copy, PartialEq, Eq)]
 pub struct Request {
     pub by: By,
     pub ask: Ask,

@@ -5,7 +5,7 @@ ghost use Rattle.office_base.specs.CategorySteps.{gives_up};
 use crate::{Category, StepKind};
 
 /// When the seats that a category left empty go to the de-reserved step.
-#[derive(Clone, Copy, Debug, PartialEq, Eq)]
+#[derive(Clone, Copy, PartialEq, Eq)]
 pub enum GivesUp {
     Never,
     /// In this version of the bundle alone.
@@ -14,7 +14,7 @@ pub enum GivesUp {
 }
 
 /// The step that fills the seats of a category.
-#[derive(Clone, Copy, Debug, PartialEq, Eq)]
+#[derive(Clone, Copy, PartialEq, Eq)]
 pub struct CategoryStep {
     pub step: StepKind,
     pub category: Category,

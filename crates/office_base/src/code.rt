@@ -12,7 +12,7 @@ use crate::short_text::{ShortText, Spelling};
 pub type Code = ShortText<CodeSpelling, LONGEST_CODE>;
 
 /// How a code is spelled.
-#[derive(Clone, Copy, Debug)]
+#[derive(Clone, Copy)]
 pub struct CodeSpelling {}
 
 impl Spelling<LONGEST_CODE> for CodeSpelling {

@@ -3,23 +3,23 @@ ghost use Rattle.std.specs.Prelude.{◌≡◌, ◌<◌, IsTrue, ◌↔◌};
 ghost use Rattle.office_base.specs.Person.{IsList, IsTraitSet, has_trait, IsBetter, number_of, place_in};
 
 /// The number of a candidate, from 1 to 999,999,999.
-#[derive(Clone, Copy, Debug, PartialEq, Eq, PartialOrd, Ord, Hash)]
+#[derive(Clone, Copy, Debug, PartialEq, Eq, PartialOrd, Ord)]
 pub struct CandId(pub u32);
 
 /// The number of a programme, from 0 in the order in which programmes first appear.
-#[derive(Clone, Copy, Debug, PartialEq, Eq, PartialOrd, Ord, Hash)]
+#[derive(Clone, Copy, Debug, PartialEq, Eq, PartialOrd, Ord)]
 pub struct ProgId(pub u16);
 
 /// The number of a merit list, from 1 to 4.
-#[derive(Clone, Copy, Debug, PartialEq, Eq, PartialOrd, Ord, Hash)]
+#[derive(Clone, Copy, PartialEq, Eq, PartialOrd, Ord)]
 pub struct ListId(pub u8);
 
 /// A set of the traits W, D, X, S, F, L. Bits 0 to 5 are these traits, in this order; bits 6 and 7 are 0.
-#[derive(Clone, Copy, Debug, PartialEq, Eq)]
+#[derive(Clone, Copy, PartialEq, Eq)]
 pub struct TraitSet(pub u8);
 
 /// The vertical category of a candidate.
-#[derive(Clone, Copy, Debug, PartialEq, Eq)]
+#[derive(Clone, Copy, PartialEq, Eq)]
 pub enum Category {
     Gen,
     Ews,
@@ -29,7 +29,7 @@ pub enum Category {
 }
 
 /// A candidate's place in one merit list, from 1 to 9,999,999; a smaller number is better.
-#[derive(Clone, Copy, Debug, PartialEq, Eq)]
+#[derive(Clone, Copy, PartialEq, Eq)]
 pub enum Place {
     Absent,
     Common(u32),
@@ -37,7 +37,7 @@ pub enum Place {
 }
 
 /// A candidate as the choice of a step sees one. `places` has the places in the lists 1 to 4.
-#[derive(Clone, Copy, Debug, PartialEq, Eq)]
+#[derive(Clone, Copy, PartialEq, Eq)]
 pub struct Person {
     pub id: CandId,
     pub category: Category,

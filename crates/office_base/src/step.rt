@@ -15,7 +15,7 @@ pub enum StepKind {
 }
 
 /// How many seats of a step are protected for each trait, by the trait's number. The other seats are free.
-#[derive(Clone, Copy, Debug, PartialEq, Eq)]
+#[derive(Clone, Copy, PartialEq, Eq)]
 pub struct Protections {
     pub counts: [u16; 6],
 }
@@ -32,14 +32,14 @@ impl Protections {
 }
 
 /// A candidate on a protected position. `slot` is the number of the position's trait, from 0 to 5.
-#[derive(Clone, Copy, Debug, PartialEq, Eq)]
+#[derive(Clone, Copy, PartialEq, Eq)]
 pub struct Pair {
     pub cand: CandId,
     pub slot: u8,
 }
 
 /// One step of a programme. The people are in merit order, the best first.
-#[derive(Debug, Drop)]
+#[derive(Drop)]
 pub struct Step {
     pub list: ListId,
     pub seats: u16,

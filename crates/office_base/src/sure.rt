@@ -8,7 +8,7 @@ use std::alloc::Global;
 use std::marker::Model;
 
 /// Holds bytes in memory, and returns them in pieces of at most `piece` bytes. It never fails.
-#[derive(Debug, Drop)]
+#[derive(Drop)]
 pub struct SureSource {
     bytes: Vec<u8>,
     read: usize,
@@ -65,7 +65,7 @@ impl Source for SureSource {
 }
 
 /// Takes each piece whole and keeps nothing. Its bytes are hidden. It allocates nothing and never fails.
-#[derive(Debug, Drop)]
+#[derive(Drop)]
 pub struct SureSink {}
 
 impl SureSink {

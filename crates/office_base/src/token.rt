@@ -13,7 +13,7 @@ use crate::short_text::{ShortText, Spelling};
 pub type Token = ShortText<TokenSpelling, LONGEST_TOKEN>;
 
 /// How a token is spelled.
-#[derive(Clone, Copy, Debug)]
+#[derive(Clone, Copy)]
 pub struct TokenSpelling {}
 
 impl Spelling<LONGEST_TOKEN> for TokenSpelling {

@@ -6,7 +6,7 @@ use std::alloc::Global;
 use std::marker::Model;
 
 /// A list of texts. Contracts see the bytes of each.
-#[derive(Debug, Drop)]
+#[derive(Drop)]
 pub struct Words {
     alloc: Global,
     words: Vec<String>,

@@ -11,7 +11,7 @@ use std::marker::Model;
 
 /// Gives links in memory one after another, in their order.
 /// The room for those that come back is allocated when it is made.
-#[derive(Debug, Drop)]
+#[derive(Drop)]
 pub struct MemDoor {
     coming: Vec<MemLink>,
     returned: Vec<MemLink>,

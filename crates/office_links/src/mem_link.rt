@@ -12,7 +12,7 @@ use std::marker::Model;
 /// Holds bytes to read, in pieces of at most `piece` bytes, and room for those that are written: a source and a sink in
 /// memory that themselves never fail, with one number over the calls of both.
 /// All room is allocated when it is made, so reads and writes allocate nothing.
-#[derive(Debug, Drop)]
+#[derive(Drop)]
 pub struct MemLink {
     source: MemSource,
     sink: MemSink,

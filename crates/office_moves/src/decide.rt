@@ -10,7 +10,7 @@ use office_base::{By, CandId, Choice, ProgId, StepKind};
 use round_options::{Standing, allowed};
 
 /// What a request comes to. The lists of a programme are not copied before it is known that they are asked for.
-#[derive(Clone, Copy, Debug, PartialEq, Eq)]
+#[derive(Clone, Copy, PartialEq, Eq)]
 pub enum Decision {
     /// It is refused, and nothing changes.
     Refuse(Refusal),
@@ -33,7 +33,7 @@ pub enum Decision {
 }
 
 /// What a reply tells, where nothing changes. The sender may ask it, and what it names exists.
-#[derive(Clone, Copy, Debug, PartialEq, Eq)]
+#[derive(Clone, Copy, PartialEq, Eq)]
 pub enum Question {
     /// The seat of the candidate.
     Seat { cand: CandId },
@@ -56,7 +56,7 @@ pub enum Question {
 }
 
 /// What an answer is judged by.
-#[derive(Clone, Copy, Debug)]
+#[derive(Clone, Copy)]
 pub struct AnswerFacts {
     /// The candidate is in the register.
     pub known: bool,
@@ -77,7 +77,7 @@ pub struct AnswerFacts {
 }
 
 /// What a raise of a programme of the matrix is judged by.
-#[derive(Clone, Copy, Debug)]
+#[derive(Clone, Copy)]
 pub struct RaiseFacts {
     /// This very raise was accepted.
     pub again: bool,

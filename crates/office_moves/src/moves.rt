@@ -11,7 +11,7 @@ use reasons::WhyAnswer;
 use round_options::Standing;
 
 /// What was accepted.
-#[derive(Clone, Copy, Debug, PartialEq, Eq)]
+#[derive(Clone, Copy, PartialEq, Eq)]
 pub enum Act {
     /// An answer of its candidate.
     Answer(AnswerRow),
@@ -22,14 +22,14 @@ pub enum Act {
 }
 
 /// An accepted act. Numbers rise along a history, and the first is at least 1.
-#[derive(Clone, Copy, Debug, PartialEq, Eq)]
+#[derive(Clone, Copy, PartialEq, Eq)]
 pub struct Entry {
     pub number: u64,
     pub act: Act,
 }
 
 /// The reply to a request.
-#[derive(Debug, Drop)]
+#[derive(Drop)]
 pub enum Reply {
     /// The receipt of an answer.
     Noted {

@@ -28,7 +28,7 @@ use std::alloc::Global;
 
 /// How many came to a programme of a list: those with a common place there, and the members of each category that has
 /// seats of its own.
-#[derive(Clone, Copy, Debug)]
+#[derive(Clone, Copy)]
 pub struct Tried {
     pub list: ListId,
     pub common: u32,

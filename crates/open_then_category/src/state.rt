@@ -27,7 +27,7 @@ use std::marker::Model;
 use std::sync::ledger::Ledger;
 
 /// The seats of a programme, and whom each step admits of all who were offered so far.
-#[derive(Debug, Drop)]
+#[derive(Drop)]
 pub struct ProgrammeState {
     version: u8,
     seats: ProgrammeSeats,

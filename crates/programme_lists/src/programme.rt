@@ -7,7 +7,7 @@ use std::alloc::Global;
 
 /// Holds one step of a programme, as it is shown: its seats, the number of people who competed for them, the persons
 /// admitted in merit order, and what shows which protections they fill.
-#[derive(Debug, Drop)]
+#[derive(Drop)]
 pub struct StepList {
     pub kind: StepKind,
     pub seats: u32,
@@ -17,7 +17,7 @@ pub struct StepList {
 }
 
 /// Holds the lists of a programme, in the order of its steps.
-#[derive(Debug, Drop)]
+#[derive(Drop)]
 pub struct Programme {
     pub steps: [StepList; STEP_COUNT],
 }

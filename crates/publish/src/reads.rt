@@ -15,14 +15,14 @@ use std::alloc::Global;
 use text_readers::{TextFault, codes_are_spelled, read_lines, small_people};
 
 /// Holds a round as it was read: its number, and its rows in the order of the register.
-#[derive(Debug, Drop)]
+#[derive(Drop)]
 pub struct RoundRead {
     pub round: u16,
     pub rows: AllotRows,
 }
 
 /// Holds final admissions as they were read, in the order of the register. Their round is the number of rounds plus 1.
-#[derive(Debug, Drop)]
+#[derive(Drop)]
 pub struct FinalRead {
     pub rows: AllotRows,
 }

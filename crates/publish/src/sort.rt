@@ -1,7 +1,7 @@
 // Which texts of rows there are.
 
 /// Says what a text of rows shows: a round, or the final admissions.
-#[derive(Clone, Copy, Debug)]
+#[derive(Clone, Copy)]
 pub(crate) enum Sort {
     Round,
     Final,

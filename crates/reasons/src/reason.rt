@@ -3,7 +3,7 @@ use office_base::{ProgId, StepKind};
 
 /// Says what counted against a person at one step of a programme: its seats, and whether somebody worse in merit was
 /// admitted there for a protection.
-#[derive(Clone, Copy, Debug, PartialEq, Eq)]
+#[derive(Clone, Copy, PartialEq, Eq)]
 pub struct StepWhy {
     pub kind: StepKind,
     pub seats: u32,
@@ -13,7 +13,7 @@ pub struct StepWhy {
 /// Says under which step a programme admits a person, or what counted against the person. A refusal has an entry
 /// exactly when the person competed for the seats of that step: the open ones, those of the candidate's own category,
 /// and those that categories left unfilled.
-#[derive(Clone, Copy, Debug, PartialEq, Eq)]
+#[derive(Clone, Copy, PartialEq, Eq)]
 pub enum Reason {
     Admitted(StepKind),
     Refused {
@@ -25,7 +25,7 @@ pub enum Reason {
 
 /// What the office answers to why a candidate has no seat in a programme, or has one: the reason, or the programme of the seat
 /// that comes earlier on the choice list, or that the candidate did not seek the programme in that round.
-#[derive(Clone, Copy, Debug, PartialEq, Eq)]
+#[derive(Clone, Copy, PartialEq, Eq)]
 pub enum WhyAnswer {
     Reason(Reason),
     Better(ProgId),

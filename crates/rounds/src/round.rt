@@ -16,7 +16,7 @@ pub type Seats = Listed<Option<Seat>>;
 pub type Programmes = Listed<Programme>;
 
 /// A round. Its number counts from 1.
-#[derive(Debug, Drop)]
+#[derive(Drop)]
 pub struct Round {
     pub number: u16,
     pub seeks: Seeks,

@@ -2,7 +2,7 @@
 use office_base::CandId;
 
 /// Says whether every published round is the best one.
-#[derive(Clone, Copy, Debug, PartialEq, Eq)]
+#[derive(Clone, Copy, PartialEq, Eq)]
 pub enum BestVerdict {
     /// Every published round is the best one.
     Best,

@@ -14,7 +14,7 @@ use round_cut::{Office, OfficeFault};
 use std::alloc::Global;
 
 /// How many answers were noted, and how many were refused.
-#[derive(Clone, Copy, Debug, PartialEq, Eq)]
+#[derive(Clone, Copy, PartialEq, Eq)]
 pub struct Tally {
     pub noted: usize,
     pub refused: usize,

@@ -3,7 +3,7 @@ ghost use Rattle.std.specs.Prelude.{◌≡◌, ◌<◌};
 ghost use Rattle.season_generator.specs.Draws.{drawn, next};
 
 /// A linear congruential generator over 64 bits, with Knuth's multiplier for MMIX.
-#[derive(Clone, Copy, Debug)]
+#[derive(Clone, Copy)]
 pub(crate) struct Draws {
     state: u64,
 }

@@ -7,7 +7,7 @@ use crate::draws::Draws;
 use office_base::Category;
 
 /// What is drawn for a candidate.
-#[derive(Clone, Copy, Debug, PartialEq, Eq)]
+#[derive(Clone, Copy, PartialEq, Eq)]
 pub struct Profile {
     pub category: Category,
     /// Whether the candidate has the trait of women.

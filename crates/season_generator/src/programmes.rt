@@ -10,7 +10,7 @@ use office_text::push_number;
 use step_lines::step_name;
 
 /// What a programme has in a step.
-#[derive(Clone, Copy, Debug, PartialEq, Eq)]
+#[derive(Clone, Copy, PartialEq, Eq)]
 pub struct StepSeats {
     pub seats: u32,
     /// Those protected for women.

@@ -8,7 +8,7 @@ use std::alloc::Global;
 use step_lines::push_count;
 
 /// What a generated season came to.
-#[derive(Debug, Drop)]
+#[derive(Drop)]
 pub struct Summary {
     /// How many candidates were generated.
     pub candidates: u32,

@@ -6,7 +6,7 @@ use office_base::{ListId, OWN_COUNT, Protections, StepKind, step_number};
 
 /// The seats of one step, at most 4,000, and how many of them are protected for each trait. The protected positions are
 /// among the seats.
-#[derive(Clone, Copy, Debug, PartialEq, Eq)]
+#[derive(Clone, Copy, PartialEq, Eq)]
 pub struct Seating {
     pub seats: u16,
     pub protections: Protections,
@@ -14,13 +14,13 @@ pub struct Seating {
 
 /// The seats of a programme in each step that has seats of its own, by the number of the step: 0 and no protections where no
 /// row was given.
-#[derive(Clone, Copy, Debug, PartialEq, Eq)]
+#[derive(Clone, Copy, PartialEq, Eq)]
 pub struct Seatings {
     pub own: [Seating; OWN_COUNT],
 }
 
 /// All that a matrix has for one programme: its merit list, and the seats of its steps.
-#[derive(Clone, Copy, Debug, PartialEq, Eq)]
+#[derive(Clone, Copy, PartialEq, Eq)]
 pub struct ProgrammeSeats {
     pub list: ListId,
     pub steps: Seatings,

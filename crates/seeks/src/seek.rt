@@ -7,7 +7,7 @@ use office_base::{OutOfMemory, ProgId};
 use seat_matrix::Matrix;
 
 /// Which part of a choice list is effective. The number is the place of the candidate's seat in the list, from 0.
-#[derive(Clone, Copy, Debug, PartialEq, Eq)]
+#[derive(Clone, Copy, PartialEq, Eq)]
 pub enum Seek {
     /// The whole list: the candidate has no seat.
     Whole,

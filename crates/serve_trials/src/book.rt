@@ -6,7 +6,7 @@ use office_base::{Booked, OutOfMemory};
 use std::alloc::Global;
 
 /// A row: the number of the turn in which it was written, who wrote it, and which of the writer's rows it is.
-#[derive(Clone, Copy, Debug, PartialEq, Eq, Drop)]
+#[derive(Clone, Copy, PartialEq, Eq, Drop)]
 pub struct Row {
     pub number: u64,
     pub by: u64,

@@ -8,7 +8,7 @@ ghost use Rattle.office_base.specs.Placement.{Fills, IsPlacement, placed_on, pro
 use office_base::{Pair, Pairs, Person, Protections};
 
 /// Holds the pairs that a certificate shows: who fills which protected position.
-#[derive(Debug, Drop)]
+#[derive(Drop)]
 pub struct Cert {
     pub pairs: Pairs,
 }

@@ -17,7 +17,7 @@ use std::alloc::Global;
 use std::marker::Model;
 
 /// What came of one person.
-#[derive(Clone, Copy, Debug, PartialEq, Eq)]
+#[derive(Clone, Copy, PartialEq, Eq)]
 pub enum Augment {
     /// The person is a member now: one protection more is honoured.
     Raised,
@@ -29,7 +29,7 @@ pub enum Augment {
 }
 
 /// Persons who can all be placed on protected positions at once, kept as they come.
-#[derive(Debug, Drop)]
+#[derive(Drop)]
 pub struct Matching {
     protections: Protections,
     list: ListId,

@@ -6,7 +6,7 @@ ghost use Rattle.step_cutoffs.specs.Cutoff.{IsWithin};
 use office_base::Place;
 
 /// Says with which places of its list a step admits a person: those whom it admitted, and one person more.
-#[derive(Clone, Copy, Debug, PartialEq, Eq)]
+#[derive(Clone, Copy, PartialEq, Eq)]
 pub enum Cutoff {
     /// With no place: the step admits nobody.
     Nobody,

@@ -29,7 +29,7 @@ const SILENCE: u64 = 2;
 const WHOLE: u64 = 60;
 
 // How far a connection is.
-#[derive(Clone, Copy, Debug, PartialEq, Eq)]
+#[derive(Clone, Copy, PartialEq, Eq)]
 enum Stage {
     // Nothing came yet.
     New,

@@ -7,7 +7,7 @@ use std::time::{Duration, Instant};
 use std::{io, thread};
 
 /// Says which answers a server watches for: how they begin, and the line that reports the first of them.
-#[derive(Clone, Copy, Debug)]
+#[derive(Clone, Copy)]
 pub struct Watched {
     pub start: &'static [u8],
     pub line: &'static str,

@@ -9,7 +9,7 @@ use office_base::short_text::{ShortText, Spelling};
 pub(crate) type State = ShortText<StateSpelling, 2>;
 
 /// How a state is spelled.
-#[derive(Clone, Copy, Debug)]
+#[derive(Clone, Copy)]
 pub(crate) struct StateSpelling {}
 
 impl Spelling<2> for StateSpelling {
