@@ -12,10 +12,10 @@ use Rattle.seat_matrix.specs.Seats.{is_dereserved}
 use Rattle.open_then_category.proofs.Counting.{few_admitted}
 use Rattle.open_then_category.proofs.kept_lists.count_all_held.Goals as goal
 
-own_kind : (i : ℕ) (d : StepKind) → i < 5 → is_dereserved (get_or own_steps i d) ≡ false
+own_kind : (i : ℕ) (d : StepKind) → i < length own_steps → is_dereserved (get_or own_steps i d) ≡ false
 own_kind i d below =
     let number : step_number (get_or own_steps i d) ≡ i = own_number_at i (get_or own_steps i d) (slice_get-get_or own_steps i d below) in
-    ne_eqb (step_number (get_or own_steps i d)) 5 (λ same. absurd (omega (arith, number, same, below)))
+    ne_eqb (step_number (get_or own_steps i d)) (length own_steps) (λ same. absurd (omega (arith, number, same, below)))
 
 pub overflow_cast-held : goal.overflow_cast-held
 overflow_cast-held c =

@@ -1,4 +1,5 @@
-use Rattle.std.proofs.Common.{◌≡◌, ◌∙◌, ◌<◌, List, false, arith, subst}
+use Rattle.std.proofs.Common.{◌≡◌, ◌∙◌, ◌<◌, List, false, length, arith, subst}
+use Rattle.office_base.specs.CategorySteps.{own_steps}
 use Rattle.office_base.specs.StepNumbers.{step_number}
 use Rattle.office_base.specs.declared.step.StepKind.{StepKind}
 use Rattle.office_base.specs.declared.step.StepKind.TheVariants.{Dereserved}
@@ -9,7 +10,7 @@ use Rattle.special_round.proofs.Owned.{all_own}
 use Rattle.special_round.proofs.Setting.{step_at, step_more}
 use Rattle.special_round.proofs.matrix.set_from.Goals as goal
 
-own_below : (step : StepKind) → is_dereserved step ≡ false → step_number step < 5
+own_below : (step : StepKind) → is_dereserved step ≡ false → step_number step < length own_steps
 own_below Dereserved own = absurd (cc)
 own_below step own = omega arith
 
