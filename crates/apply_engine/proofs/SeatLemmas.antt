@@ -1,5 +1,5 @@
 -- The seats that the lists of the programmes show, step after step and programme after programme.
-use Rattle.std.proofs.Common.{◌≡◌, ◌≢◌, ◌<◌, ◌≤◌, ◌+◌, ◌⊎◌, inl, inr, ℕ, zero, suc, List, [], ◌∷◌, Option, Some, arith, refl, sym, ap, ◌∙◌, subst}
+use Rattle.std.proofs.Common.{◌≡◌, ◌≢◌, ◌<◌, ◌≤◌, ◌+◌, ◌⊎◌, inl, inr, ℕ, zero, suc, List, [], ◌∷◌, length, Option, Some, arith, refl, sym, ap, ◌∙◌, subst}
 use Rattle.std.specs.Prelude.{slice_get}
 use Rattle.std.proofs.lemmas.Bool.Decides.{eqb_tells}
 use Rattle.office_base.specs.CategorySteps.{all_steps}
@@ -53,7 +53,7 @@ step_more people p j programme list old seats new order once at h put =
 
 -- one programme more: each person is shown by it, or has what the person had
 pub one_programme_more : (people : List Person) (programmes : List Programme) (p : ℕ) (programme : Programme) (seats new : List (Option Seat)) → AreShown people programmes
-    → slice_get programmes p ≡ Some programme → AreGiven people programmes p seats → ArePut people p 6 programme seats new
+    → slice_get programmes p ≡ Some programme → AreGiven people programmes p seats → ArePut people p (length all_steps) programme seats new
     → ((i : ℕ) (person : Person) (seat : Seat) → slice_get people i ≡ Some person → slice_get new i ≡ Some (Some seat)
     → ((kind : StepKind) × IsAmong person (shown programme kind)) ⊎ ((kind : StepKind) → IsAmong person (shown programme kind) → ⊥))
     → AreGiven people programmes (p + 1) new

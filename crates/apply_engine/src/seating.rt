@@ -1,5 +1,6 @@
 // The seats of a round, from the lists of its programmes.
 ghost use Rattle.std.specs.Prelude.{◌≡◌, ◌<◌, ◌≤◌, ℕ, Option, Some, None, IfOk, length, slice_get};
+ghost use Rattle.office_base.specs.CategorySteps.{all_steps};
 ghost use Rattle.office_base.specs.declared.asks.Seat.{Seat as AnySeat};
 ghost use Rattle.office_base.specs.declared.step.StepKind.{StepKind as AnyStepKind};
 ghost use Rattle.apply_engine.specs.Made.{AreGiven, AreInOrder, AreOf, ArePut, AreShown, IsPut, IsShownOnce, shown};
@@ -37,7 +38,8 @@ fn put_programme(
         → AreOf register.now.people (shown programme.now kind) }
     requires once { IsShownOnce programme.now }
     requires full { length seats.old ≡ length register.now.people }
-    ensures { ArePut register.now.people prog.0 6 programme.now seats.old seats.new }
+    ensures { ArePut register.now.people prog.0 (length all_steps) programme.now seats.old
+        seats.new }
 {
     for list in &programme.steps {
         let seat = Seat {
