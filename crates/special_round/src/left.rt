@@ -46,9 +46,13 @@ fn left_behind(matrix: &Matrix, rows: &[AllotRow], prog: ProgId, step: StepKind)
 {
     let mut left = 0;
     for row in CATEGORY_STEPS {
-        if may_be_taken(row) && step_number(step) < step_number(row.step) {
-            left += usize::from(own_seats_left(matrix, rows, prog, row.step));
+        if !may_be_taken(row) {
+            continue;
         }
+        if step_number(row.step) <= step_number(step) {
+            continue;
+        }
+        left += usize::from(own_seats_left(matrix, rows, prog, row.step));
     }
     left
 }

@@ -7,6 +7,7 @@ use Rattle.special_round.proofs.left.left_behind.Given as goal
 
 abbrev pub invariant-loop-row : goal.invariant-loop-row
 invariant-loop-row l = record {
+  rows : l.row-items ≡ category_steps;
   whole : l.left ≡ sum_by (λ row. if may_be_taken row && nat_lt (step_number l.step) (step_number row.step) then own_left l.matrix l.rows l.prog.0 row.step else 0) (take l.row-index category_steps);
   few : l.left ≤ 65535 * l.row-index;
 }
