@@ -85,7 +85,7 @@ programmes-found code programmes [] = or_none (find_home code programmes)
 programmes-found code programmes (entry ∷ entries) = programmes-found code (with_programme programmes entry.programme entry.home) entries ∙ with_programme-found code programmes entry (home_at code entries)
 
 -- All entries have a matrix.
-pub matrix_of : (entries : List Entry) → IsMatrix entries (record { programmes = programmes_after [] entries; steps = map (seatings_in entries) (codes_of entries) })
+matrix_of : (entries : List Entry) → IsMatrix entries (record { programmes = programmes_after [] entries; steps = map (seatings_in entries) (codes_of entries) })
 matrix_of entries = record {
   programmes = programmes-codes [] entries;
   homes = λ code. programmes-found code [] entries;

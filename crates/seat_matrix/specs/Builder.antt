@@ -28,7 +28,7 @@ programmes_after programmes (entry ∷ entries) = programmes_after (with_program
 abbrev pub AreNumbers : List (List ℕ × Home) → BTreeMap (List ℕ) ProgId → Type 0
 AreNumbers programmes numbers = (code : List ℕ) → option_map (λ prog. prog.0) (tree.get (slice_cmp nat_cmp) numbers code) ≡ position (bytes_eq code) (codes_in programmes)
 
--- The maps know what the entries say.
+-- The builder has what the entries say.
 pub record Keeps (entries : List Entry) (table : MatrixBuilder) : Type 0 where
   pub sound : AreEntries entries
   pub programmes : table.programmes.items ≡ programmes_after [] entries
