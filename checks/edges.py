@@ -169,9 +169,9 @@ def open_elsewhere(room, program, bundle):
     return is_so("resume of a store that is being written", came, NO_STORE) or is_so("resume after that", ended(words, room, **asks), told)
 
 
-def crashed_store(room, program):
-    """The bytes of a store and of its log, which a killed run left, with frames in the log."""
-    bundle, path = ended([program, "generate", "200", "7", "text"], room)[0], f"{room}/season.db"
+def crashed_store(room, program, candidates=200):
+    """The bytes of a store and of its log, which a killed run left, with frames in the log. A run that ended before it was killed leaves none: then of a larger season."""
+    bundle, path = ended([program, "generate", str(candidates), "7", "text"], room)[0], f"{room}/season.db"
     with tempfile.TemporaryFile() as source:
         source.write(bundle)
         source.seek(0)
@@ -179,8 +179,11 @@ def crashed_store(room, program):
     while office.poll() is None and (not os.path.exists(f"{path}-wal") or os.path.getsize(f"{path}-wal") < 300_000):
         time.sleep(0.002)
     office.kill()
-    office.wait()
-    return bytes_of(path)
+    if office.wait() == -signal.SIGKILL:
+        return bytes_of(path)
+    for it in (path, f"{path}-wal"):
+        os.remove(it)
+    return crashed_store(room, program, 2 * candidates)
 
 
 def bytes_of(path):
