@@ -170,7 +170,8 @@ def open_elsewhere(room, program, bundle):
 
 
 def crashed_store(room, program, candidates=200):
-    """The bytes of a store and of its log, which a killed run left, with frames in the log. A run that ended before it was killed leaves none: then of a larger season."""
+    """The bytes of a store and of its log, which a killed run left, with frames in the log.
+    A run that ended well before it was killed leaves none, so a season of twice as many candidates is run then."""
     bundle, path = ended([program, "generate", str(candidates), "7", "text"], room)[0], f"{room}/season.db"
     with tempfile.TemporaryFile() as source:
         source.write(bundle)
@@ -179,7 +180,7 @@ def crashed_store(room, program, candidates=200):
     while office.poll() is None and (not os.path.exists(f"{path}-wal") or os.path.getsize(f"{path}-wal") < 300_000):
         time.sleep(0.002)
     office.kill()
-    if office.wait() == -signal.SIGKILL:
+    if office.wait() or candidates > 10_000:
         return bytes_of(path)
     for it in (path, f"{path}-wal"):
         os.remove(it)
