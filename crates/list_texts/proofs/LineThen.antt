@@ -52,3 +52,25 @@ module _ {P V : Type 0} (words : P → List ℕ) (can : P → Type 0) (next : P 
           (value, subst (λ z. next z rest value) q (subst (λ z. next is.part z value) (sym r) is.later));
       some = some;
     }
+
+-- A form of a line: its texts have no LF and spell one part each, and something completes the text after each.
+pub record LineForm {P V : Type 0} (words : P → List ℕ) (can : P → Type 0) (next : P → Grammar V) : Type 0 where
+  pub clear : (p : P) → can p → HasNo 10 (words p)
+  pub one : (p q : P) → can p → can q → words p ≡ words q → p ≡ q
+  pub some : (p : P) → can p → Begins (next p) []
+
+module _ {P V : Type 0} {words : P → List ℕ} {can : P → Type 0} {next : P → Grammar V} (form : LineForm words can next) where
+  pub form-refused : (line : List ℕ) → HasNo 10 line → ((p : P) → can p → line ≡ words p → ⊥) → IsRefused (IsLineThen words can next) line
+  form-refused line none never = then-refused words can next form.clear line none never
+
+  pub form-leads : (line : List ℕ) → HasNo 10 line → (p : P) → can p → line ≡ words p → Leads (IsLineThen words can next) (next p) line
+  form-leads line none p may same = then-leads words can next form.clear line none form.one p may same (form.some p may)
+
+  pub form-from : (piece : List ℕ) → BeginsLine words can piece → Begins (IsLineThen words can next) piece
+  form-from piece b = then-begins words can next piece form.some b
+
+  pub form-to : (piece : List ℕ) → HasNo 10 piece → Begins (IsLineThen words can next) piece → BeginsLine words can piece
+  form-to piece none b = begins-then words can next piece none b
+
+  pub form-ends : (piece : List ℕ) → HasNo 10 piece → EndsWithLines (IsLineThen words can next) piece
+  form-ends piece none = then-ends words can next piece none

@@ -5,7 +5,8 @@ use Rattle.std.proofs.lemmas.Slice.Eq.{slice_eq-Decides}
 use Rattle.text_readers.specs.Reading.{IsRefused, Leads}
 use Rattle.list_texts.specs.ListLines.{IsListEnd, last_words, steps_text}
 use Rattle.list_texts.specs.ListReader.{left_at, list_at, most_lines, said_by}
-use Rattle.list_texts.proofs.StageLines.{last-leads, last-refused}
+use Rattle.list_texts.proofs.LineThen.{form-leads, form-refused}
+use Rattle.list_texts.proofs.StageLines.{last-form}
 use Rattle.list_texts.proofs.list_reader.ListReader.take_last.Goals as goal
 
 pub returns-then-eq-clause-answered : goal.returns-then-eq-clause-answered
@@ -14,7 +15,7 @@ returns-then-eq-clause-answered c =
     let same : c.args.line.now ≡ last_words tt = (slice_eq-Decides Decides-eqb _ _ _ c.eq.ensures).0 c.if-eq.true ∙ c.as_slice.ensures in
     subst (λ st. Leads (list_at st s) (IsListEnd (said_by s)) c.args.line.now) (sym c.requires.stage)
     (subst (λ z. Leads (steps_text s.register.now.people z (said_by s)) (IsListEnd (said_by s)) c.args.line.now) (sym c.requires.kinds)
-    (last-leads s.matrix.now s.register.now.people c.requires.keeps.known (said_by s) c.args.line.now c.requires.line same))
+    (form-leads (last-form s.matrix.now s.register.now.people c.requires.keeps.known (said_by s)) c.args.line.now c.requires.line tt tt same))
 
 pub returns-else-eq-clause-answered : goal.returns-else-eq-clause-answered
 returns-else-eq-clause-answered c =
@@ -22,7 +23,7 @@ returns-else-eq-clause-answered c =
     let other : c.args.line.now ≡ last_words tt → ⊥ = λ same. false≢true (sym c.if-eq.false ∙ (slice_eq-Decides Decides-eqb _ _ _ c.eq.ensures).1 (same ∙ sym c.as_slice.ensures)) in
     subst (λ st. IsRefused (list_at st s) c.args.line.now) (sym c.requires.stage)
     (subst (λ z. IsRefused (steps_text s.register.now.people z (said_by s)) c.args.line.now) (sym c.requires.kinds)
-    (last-refused s.matrix.now s.register.now.people c.requires.keeps.known (said_by s) c.args.line.now c.requires.line other))
+    (form-refused (last-form s.matrix.now s.register.now.people c.requires.keeps.known (said_by s)) c.args.line.now c.requires.line (λ _ may. other)))
 
 pub returns-then-eq-clause-left : goal.returns-then-eq-clause-left
 returns-then-eq-clause-left c = λ _.

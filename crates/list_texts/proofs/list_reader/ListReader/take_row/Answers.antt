@@ -6,7 +6,8 @@ use Rattle.list_texts.specs.ListLines.{rows_text, slots_in, step_list, steps_tex
 use Rattle.list_texts.specs.ListReader.{IsInStage, after_step, free_in, list_at, said_by}
 use Rattle.list_texts.specs.Listing.{is_listed, pair_of}
 use Rattle.list_texts.proofs.FreeLemmas.{free-less, put-listed}
-use Rattle.list_texts.proofs.StageLines.{entry-leads', entry-refused'}
+use Rattle.list_texts.proofs.LineThen.{form-leads, form-refused}
+use Rattle.list_texts.proofs.StageLines.{entry-form}
 use Rattle.list_texts.proofs.list_reader.ListReader.take_row.Goals as goal
 
 pub returns-in_default-clause-answered : goal.returns-in_default-clause-answered
@@ -21,7 +22,7 @@ returns-in_default-clause-answered c =
     let more : suc left ≡ rows = omega (arith, kept.some) in
     subst (λ st. IsRefused (list_at st s) c.args.line.now) (sym c.requires.stage)
     (subst (λ n. IsRefused (rows_text s.register.now.people after n slots s.admitted s.pairs) c.args.line.now) more
-    (entry-refused' s.matrix.now s.register.now.people c.requires.keeps.known (said_by s) s.kinds.now step left slots s.admitted s.pairs (omega (arith, kept.few, more)) c.args.line.now c.requires.line
+    (form-refused (entry-form s.matrix.now s.register.now.people c.requires.keeps.known (said_by s) s.kinds.now step left slots s.admitted s.pairs (omega (arith, kept.few, more))) c.args.line.now c.requires.line
     (c.in_default.ensures.none s.admitted c.requires.keeps.used)))
 
 pub returns-then-left-gt0-clause-answered : goal.returns-then-left-gt0-clause-answered
@@ -36,7 +37,7 @@ returns-then-left-gt0-clause-answered c =
     let more : suc left ≡ rows = omega (arith, kept.some) in
     let person = c.in-Some.person in
     let slot = c.in-Some.slot in
-    let led = entry-leads' s.matrix.now s.register.now.people c.requires.keeps.known (said_by s) s.kinds.now step left slots s.admitted s.pairs (omega (arith, kept.few, more)) c.args.line.now c.requires.line
+    let led = form-leads (entry-form s.matrix.now s.register.now.people c.requires.keeps.known (said_by s) s.kinds.now step left slots s.admitted s.pairs (omega (arith, kept.few, more))) c.args.line.now c.requires.line
     (person, slot) (c.in-Some.ensures.may s.admitted c.requires.keeps.used) c.in-Some.ensures.some in
     subst (λ st. Leads (list_at st s) (rows_text s.register.now.people after left c.slots_after.result c.push.new.self c.put_pair.new.pairs) c.args.line.now) (sym c.requires.stage)
     (subst (λ z. Leads (rows_text s.register.now.people after rows slots s.admitted s.pairs) (rows_text s.register.now.people after left z c.push.new.self c.put_pair.new.pairs) c.args.line.now) (sym c.slots_after.ensures)
@@ -82,7 +83,7 @@ returns-clause-answered c =
     let slot = c.in-Some.slot in
     let admitted = s.admitted ++ person ∷ [] in
     let pairs = s.pairs ++ pair_of person slot in
-    let led = entry-leads' s.matrix.now s.register.now.people c.requires.keeps.known (said_by s) s.kinds.now step left slots s.admitted s.pairs (omega (arith, kept.few, more)) c.args.line.now c.requires.line
+    let led = form-leads (entry-form s.matrix.now s.register.now.people c.requires.keeps.known (said_by s) s.kinds.now step left slots s.admitted s.pairs (omega (arith, kept.few, more))) c.args.line.now c.requires.line
     (person, slot) (c.in-Some.ensures.may s.admitted c.requires.keeps.used) c.in-Some.ensures.some in
     let made : c.push-2.new.self.items ≡ s.steps.items ++ step_list step.kind step.seats step.candidates admitted pairs ∷ [] =
     c.in_ok-push-2.ensures.items ∙ ap (λ z. s.steps.items ++ step_list step.kind step.seats step.candidates z c.replace-2.result ∷ []) (c.replace.ensures.value ∙ c.in_ok-push.ensures.ok)

@@ -2,7 +2,8 @@ use Rattle.std.proofs.Common.{◌<◌, ◌≤◌, ◌+◌, length, sym, subst, a
 use Rattle.text_readers.specs.Reading.{IsRefused, Leads}
 use Rattle.list_texts.specs.ListLines.{IsStepHead, after_rows, honoured_text, steps_text}
 use Rattle.list_texts.specs.ListReader.{IsInStage, left_at, list_at, most_lines, said_by}
-use Rattle.list_texts.proofs.StageLines.{open_step, step-leads, step-refused}
+use Rattle.list_texts.proofs.LineThen.{form-leads, form-refused}
+use Rattle.list_texts.proofs.StageLines.{open_step, step-form}
 use Rattle.list_texts.proofs.list_reader.ListReader.take_step.Goals as goal
 
 pub returns-in_default-step_head-clause-answered : goal.returns-in_default-step_head-clause-answered
@@ -12,7 +13,7 @@ returns-in_default-step_head-clause-answered c =
     let later = c.in-Some.later.now in
     subst (λ st. IsRefused (list_at st s) c.args.line.now) (sym c.requires.stage)
     (subst (λ z. IsRefused (steps_text s.register.now.people z (said_by s)) c.args.line.now) (sym c.in-Some.ensures.some)
-    (step-refused s.matrix.now s.register.now.people c.requires.keeps.known (said_by s) kind later c.args.line.now c.requires.line
+    (form-refused (step-form s.matrix.now s.register.now.people c.requires.keeps.known (said_by s) kind later) c.args.line.now c.requires.line
     (λ part may. c.in_default-step_head.ensures.none part (subst (λ n. IsStepHead n part) (sym c.count_people.ensures) may))))
 
 pub returns-clause-answered : goal.returns-clause-answered
@@ -24,7 +25,7 @@ returns-clause-answered c =
     let next = honoured_text s.register.now.people (after_rows s.register.now.people later (said_by s) (open_step kind (head.seats, head.candidates, head.admitted))) kind head.admitted in
     subst (λ st. Leads (list_at st s) next c.args.line.now) (sym c.requires.stage)
     (subst (λ z. Leads (steps_text s.register.now.people z (said_by s)) next c.args.line.now) (sym c.in-Some.ensures.some)
-    (step-leads s.matrix.now s.register.now.people c.requires.keeps.known (said_by s) kind later c.args.line.now c.requires.line (head.seats, head.candidates, head.admitted)
+    (form-leads (step-form s.matrix.now s.register.now.people c.requires.keeps.known (said_by s) kind later) c.args.line.now c.requires.line (head.seats, head.candidates, head.admitted)
     (subst (λ n. IsStepHead n (head.seats, head.candidates, head.admitted)) c.count_people.ensures c.in-Some-step_head.ensures.may) c.in-Some-step_head.ensures.some))
 
 pub returns-clause-keeps : goal.returns-clause-keeps
