@@ -10,7 +10,6 @@ ghost use Rattle.answer_table.specs.Turns.{no_turns};
 ghost use Rattle.proceedings.specs.Changes.{IsAnswerAt, StillAfter};
 
 use crate::book::Proceedings;
-use crate::room::put_last;
 use answer_table::AnswerTable;
 use cut_arrays::leave_all;
 use kept_rows::{AllotRows, AnswerRow, RaiseRow};
@@ -101,7 +100,7 @@ impl Proceedings {
         self.turns[usize::from(row.window)].put(at as usize, row.choice);
         self.still_in = still;
         let act = Act::Answer(row);
-        put_last(&mut self.entries, Entry { number, act });
+        self.entries.push_reserved(Entry { number, act });
     }
 
     /// Takes the cut of the open window, which publishes this round, as entry of this number. Opens the next window with this table.
@@ -129,10 +128,10 @@ impl Proceedings {
             &self.turns[usize::from(window)],
             seats,
         );
-        put_last(&mut self.rounds, round);
-        put_last(&mut self.turns, table);
+        self.rounds.push_reserved(round);
+        self.turns.push_reserved(table);
         let act = Act::Cut { window };
-        put_last(&mut self.entries, Entry { number, act });
+        self.entries.push_reserved(Entry { number, act });
         self.still_in = still;
         self.window += 1;
     }
@@ -161,7 +160,7 @@ impl Proceedings {
         );
         self.finals = Some(rows);
         let act = Act::Cut { window };
-        put_last(&mut self.entries, Entry { number, act });
+        self.entries.push_reserved(Entry { number, act });
         self.still_in = still;
         self.window += 1;
     }
@@ -184,6 +183,6 @@ impl Proceedings {
         history_laws::laws::orderly();
         self.raised.raise(row);
         let act = Act::Raise(row);
-        put_last(&mut self.entries, Entry { number, act });
+        self.entries.push_reserved(Entry { number, act });
     }
 }

@@ -9,7 +9,6 @@ mod changes;
 mod decide;
 mod looks;
 mod next;
-mod room;
 mod tell;
 mod why;
 

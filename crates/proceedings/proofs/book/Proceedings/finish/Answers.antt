@@ -39,7 +39,7 @@ invariant_of-self c =
     let state = state_of a in
     let inv = c.self.invariant in
     let rows = c.args.rows in
-    let entries : List Entry = c.put_last.new.items.items in
+    let entries : List Entry = c.push_reserved.new.self.items in
     let P : Proceeding → Type 0 = λ p. decided p.season p.state (asked p.season (Cut p.state.now)) ≡ Finish in
     let is = subst P (sym c.self.view_is) c.requires.decided in
     let Q : Proceeding → Type 0 = λ p. last_of p.entries < c.args.number in
@@ -53,13 +53,13 @@ invariant_of-self c =
     let there = slice_get_read a.turns.items _ c.from.result c.index.result.now refl (omega (arith, a.turns.ok.0, a.rounds.ok.0, order, inv.tables, c.from.ensures)) c.index.ensures in
     let turns : c.index.result.now ≡ table_along facts state state.now = inv.turns c.from.result c.index.result.now there ∙ ap (table_along facts state) c.from.ensures in
     let so : c.as_mut_slice.result.now ≡ left_along facts state = c.as_mut_slice.ensures.value ∙ inv.left in
-    let answers : answers_of entries ≡ answers_of a.entries.items = cut_answers a.entries.items entries c.args.number a.window c.put_last.ensures.items in
+    let answers : answers_of entries ≡ answers_of a.entries.items = cut_answers a.entries.items entries c.args.number a.window c.push_reserved.ensures.items in
     let new : State = record { now = a.window + 1; rounds = a.rounds.items; finals = Some rows; answers = answers_of entries; raises = a.raised.raises } in
     let same : new ≡ with_finals state rows = finished_state a.window a.rounds.items a.finals (answers_of a.entries.items) (answers_of entries) a.raised.raises rows answers in
     let H : State → Type 0 = λ s. IsHistory facts entries s in
     let G : List Entry → Type 0 = λ es. IsHistory facts es (with_finals state rows) in
     let history : IsHistory facts entries new =
-    subst H (sym same) (subst G (sym c.put_last.ensures.items) (finished_on facts a.entries.items state rows c.args.number (c.history_grows.ensures facts) inv.history above is next)) in
+    subst H (sym same) (subst G (sym c.push_reserved.ensures.items) (finished_on facts a.entries.items state rows c.args.number (c.history_grows.ensures facts) inv.history above is next)) in
     let left : c.leave_all-still.new.left ≡ left_along facts new =
     finished_left facts state c.as_mut_slice.result.now c.index.result.now rows c.leave_all-still.new.left (length c.as_mut_slice.result.now) (left_full facts state c.as_mut_slice.result.now so) so turns order c.leave_all-still.ensures.left ∙ ap (left_along facts) (sym same) in
     let size : length c.leave_all-still.new.left ≡ a.left.len = left_full facts new c.leave_all-still.new.left left ∙ (sym (left_full facts state a.left.items inv.left) ∙ sym a.left.ok.0) in
@@ -74,7 +74,7 @@ invariant_of-self c =
       still = cut_still facts new c.leave_all-still.new.left c.leave_all-still.result (λ id. none_moved state new (a.window + 1) id answers (inv.later (a.window + 1) id (omega (arith, a.rounds.ok.0, inv.tables, order)))) left c.leave_all-still.ensures.still;
       tables = inv.tables;
       later = λ window id late. none_moved state new window id answers (inv.later window id late);
-      withdrawals = omega (arith, fewer, space, c.put_last.ensures.len, c.put_last.ensures.capacity);
+      withdrawals = omega (arith, fewer, space, c.push_reserved.ensures.len, c.push_reserved.ensures.capacity);
       rounds_room = inv.rounds_room;
       tables_room = inv.tables_room;
     }
@@ -82,8 +82,8 @@ invariant_of-self c =
 pub returns-clause-state : goal.returns-clause-state
 returns-clause-state c =
     let a = c.self.inside in
-    let answers = cut_answers a.entries.items c.put_last.new.items.items c.args.number a.window c.put_last.ensures.items in
-    finished_state a.window a.rounds.items a.finals (answers_of a.entries.items) (answers_of c.put_last.new.items.items) a.raised.raises c.args.rows answers
+    let answers = cut_answers a.entries.items c.push_reserved.new.self.items c.args.number a.window c.push_reserved.ensures.items in
+    finished_state a.window a.rounds.items a.finals (answers_of a.entries.items) (answers_of c.push_reserved.new.self.items) a.raised.raises c.args.rows answers
     ∙ ap (λ (p : Proceeding). with_finals p.state c.args.rows) c.self.view_is
 
 pub returns-clause-still : goal.returns-clause-still

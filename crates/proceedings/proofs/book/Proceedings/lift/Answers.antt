@@ -40,7 +40,7 @@ invariant_of-self c =
     let state = state_of a in
     let inv = c.self.invariant in
     let row = c.args.row in
-    let entries : List Entry = c.put_last.new.items.items in
+    let entries : List Entry = c.push_reserved.new.self.items in
     let raises : List RaiseRow = c.raise.new.self.raises in
     let P : Proceeding → Type 0 = λ p. decided p.season p.state (asked p.season (Raise row)) ≡ Lift row in
     let is = subst P (sym c.self.view_is) c.requires.decided in
@@ -48,13 +48,13 @@ invariant_of-self c =
     let above = subst Q (sym c.self.view_is) c.requires.number in
     let R : Proceeding → Type 0 = λ p. p.still < p.room in
     let space = subst R (sym c.self.view_is) c.requires.space in
-    let answers : answers_of entries ≡ answers_of a.entries.items = raise_answers a.entries.items entries c.args.number row c.put_last.ensures.items in
+    let answers : answers_of entries ≡ answers_of a.entries.items = raise_answers a.entries.items entries c.args.number row c.push_reserved.ensures.items in
     let new : State = record { now = a.window; rounds = a.rounds.items; finals = a.finals; answers = answers_of entries; raises = raises } in
     let same : new ≡ with_raise state row = raised_state a.window a.rounds.items a.finals (answers_of a.entries.items) (answers_of entries) a.raised.raises raises row answers c.raise.ensures.raises in
     let H : State → Type 0 = λ s. IsHistory facts entries s in
     let G : List Entry → Type 0 = λ es. IsHistory facts es (with_raise state row) in
     let history : IsHistory facts entries new =
-    subst H (sym same) (subst G (sym c.put_last.ensures.items) (raised_on facts a.entries.items state row c.args.number (c.history_grows.ensures facts) inv.history above is)) in
+    subst H (sym same) (subst G (sym c.push_reserved.ensures.items) (raised_on facts a.entries.items state row c.args.number (c.history_grows.ensures facts) inv.history above is)) in
     record {
       sound = inv.sound;
       history = history;
@@ -65,7 +65,7 @@ invariant_of-self c =
       still = inv.still ∙ (still_raised facts state row ∙ ap (still_of facts) (sym same));
       tables = inv.tables;
       later = λ window id late. none_moved state new window id answers (inv.later window id late);
-      withdrawals = omega (arith, space, c.put_last.ensures.len, c.put_last.ensures.capacity);
+      withdrawals = omega (arith, space, c.push_reserved.ensures.len, c.push_reserved.ensures.capacity);
       rounds_room = inv.rounds_room;
       tables_room = inv.tables_room;
     }
@@ -73,6 +73,6 @@ invariant_of-self c =
 pub returns-clause-state : goal.returns-clause-state
 returns-clause-state c =
     let a = c.self.inside in
-    let answers = raise_answers a.entries.items c.put_last.new.items.items c.args.number c.args.row c.put_last.ensures.items in
-    raised_state a.window a.rounds.items a.finals (answers_of a.entries.items) (answers_of c.put_last.new.items.items) a.raised.raises c.raise.new.self.raises c.args.row answers c.raise.ensures.raises
+    let answers = raise_answers a.entries.items c.push_reserved.new.self.items c.args.number c.args.row c.push_reserved.ensures.items in
+    raised_state a.window a.rounds.items a.finals (answers_of a.entries.items) (answers_of c.push_reserved.new.self.items) a.raised.raises c.raise.new.self.raises c.args.row answers c.raise.ensures.raises
     ∙ ap (λ (p : Proceeding). with_raise p.state c.args.row) c.self.view_is

@@ -45,7 +45,7 @@ invariant_of-self c =
     let state = state_of a in
     let inv = c.self.invariant in
     let row = c.args.row in
-    let entries : List Entry = c.put_last.new.items.items in
+    let entries : List Entry = c.push_reserved.new.self.items in
     let P : Proceeding → Type 0 = λ p. IsAnswerAt p.season p.state row c.args.at in
     let is = subst P (sym c.self.view_is) c.requires.decided in
     let Q : Proceeding → Type 0 = λ p. last_of p.entries < c.args.number in
@@ -57,11 +57,11 @@ invariant_of-self c =
     let less : c.from.result < length a.turns.items = omega (arith, a.turns.ok.0, a.rounds.ok.0, order, inv.tables, n.window, c.from.ensures) in
     let there = slice_get_read a.turns.items _ c.from.result c.index_mut.result.now refl less c.index_mut.ensures.value in
     let same : record state { answers = answers_of entries } ≡ with_row state row =
-    noted_state state.now state.rounds state.finals state.raises a.entries.items entries c.args.number row c.put_last.ensures.items in
+    noted_state state.now state.rounds state.finals state.raises a.entries.items entries c.args.number row c.push_reserved.ensures.items in
     let H : State → Type 0 = λ s. IsHistory facts entries s in
     let G : List Entry → Type 0 = λ es. IsHistory facts es (with_row state row) in
     let history : IsHistory facts entries (record state { answers = answers_of entries }) =
-    subst H (sym same) (subst G (sym c.put_last.ensures.items) (noted_on facts a.entries.items state row c.args.number (c.history_grows.ensures facts) inv.history above is.0)) in
+    subst H (sym same) (subst G (sym c.push_reserved.ensures.items) (noted_on facts a.entries.items state row c.args.number (c.history_grows.ensures facts) inv.history above is.0)) in
     let T : State → Type 0 = λ s. AreTables facts s (slice_set a.turns.items c.from.result c.put.new.self) in
     record {
       sound = inv.sound;
@@ -74,8 +74,8 @@ invariant_of-self c =
       tables = inv.tables;
       later = λ window id late. ap (λ (s : State). in_window window (rows_of id s.answers)) same
           ∙ later_noted state row window id (omega (arith, a.turns.ok.0, less, c.from.ensures, late)) (inv.later window id late);
-      withdrawals = room_noted row.choice a.still_in c.still_after-still.result (vec_len a.entries) (vec_capacity a.entries) (vec_len c.put_last.new.items) (vec_capacity c.put_last.new.items)
-          c.still_after-still.ensures space inv.withdrawals c.put_last.ensures.len c.put_last.ensures.capacity;
+      withdrawals = room_noted row.choice a.still_in c.still_after-still.result (vec_len a.entries) (vec_capacity a.entries) (vec_len c.push_reserved.new.self) (vec_capacity c.push_reserved.new.self)
+          c.still_after-still.ensures space inv.withdrawals c.push_reserved.ensures.len (omega (arith, c.push_reserved.ensures.capacity));
       rounds_room = inv.rounds_room;
       tables_room = inv.tables_room;
     }
@@ -83,5 +83,5 @@ invariant_of-self c =
 pub returns-clause-state : goal.returns-clause-state
 returns-clause-state c =
     let a = c.self.inside in
-    noted_state a.window a.rounds.items a.finals a.raised.raises a.entries.items c.put_last.new.items.items c.args.number c.args.row c.put_last.ensures.items
+    noted_state a.window a.rounds.items a.finals a.raised.raises a.entries.items c.push_reserved.new.self.items c.args.number c.args.row c.push_reserved.ensures.items
     ∙ ap (λ (p : Proceeding). with_row p.state c.args.row) c.self.view_is

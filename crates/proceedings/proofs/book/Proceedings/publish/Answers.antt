@@ -49,7 +49,7 @@ invariant_of-self c =
     let state = state_of a in
     let inv = c.self.invariant in
     let round = c.args.round in
-    let entries : List Entry = c.put_last-3.new.items.items in
+    let entries : List Entry = c.push_reserved-3.new.self.items in
     let P : Proceeding → Type 0 = λ p. decided p.season p.state (asked p.season (Cut p.state.now)) ≡ Publish in
     let is = subst P (sym c.self.view_is) c.requires.decided in
     let Q : Proceeding → Type 0 = λ p. last_of p.entries < c.args.number in
@@ -65,13 +65,13 @@ invariant_of-self c =
     let there = slice_get_read a.turns.items _ c.from.result c.index.result.now refl (omega (arith, a.turns.ok.0, a.rounds.ok.0, order, inv.tables, c.from.ensures)) c.index.ensures in
     let turns : c.index.result.now ≡ table_along facts state state.now = inv.turns c.from.result c.index.result.now there ∙ ap (table_along facts state) c.from.ensures in
     let so : c.as_mut_slice.result.now ≡ left_along facts state = c.as_mut_slice.ensures.value ∙ inv.left in
-    let answers : answers_of entries ≡ answers_of a.entries.items = cut_answers a.entries.items entries c.args.number a.window c.put_last-3.ensures.items in
-    let new : State = record { now = a.window + 1; rounds = c.put_last.new.items.items; finals = a.finals; answers = answers_of entries; raises = a.raised.raises } in
-    let same : new ≡ with_round state round = published_state a.window a.rounds.items c.put_last.new.items.items a.finals (answers_of a.entries.items) (answers_of entries) a.raised.raises round c.put_last.ensures.items answers in
+    let answers : answers_of entries ≡ answers_of a.entries.items = cut_answers a.entries.items entries c.args.number a.window c.push_reserved-3.ensures.items in
+    let new : State = record { now = a.window + 1; rounds = c.push_reserved.new.self.items; finals = a.finals; answers = answers_of entries; raises = a.raised.raises } in
+    let same : new ≡ with_round state round = published_state a.window a.rounds.items c.push_reserved.new.self.items a.finals (answers_of a.entries.items) (answers_of entries) a.raised.raises round c.push_reserved.ensures.items answers in
     let H : State → Type 0 = λ s. IsHistory facts entries s in
     let G : List Entry → Type 0 = λ es. IsHistory facts es (with_round state round) in
     let history : IsHistory facts entries new =
-    subst H (sym same) (subst G (sym c.put_last-3.ensures.items) (published_on facts a.entries.items state round c.args.number (c.history_grows.ensures facts) inv.history above is next)) in
+    subst H (sym same) (subst G (sym c.push_reserved-3.ensures.items) (published_on facts a.entries.items state round c.args.number (c.history_grows.ensures facts) inv.history above is next)) in
     let left : c.leave_all-still.new.left ≡ left_along facts new =
     published_left facts state c.as_mut_slice.result.now c.index.result.now c.as_slice.result.now round c.leave_all-still.new.left inv.sound.ranks.rising so turns order
     (next_full facts state round inv.sound next) c.as_slice.ensures c.leave_all-still.ensures.left ∙ ap (left_along facts) (sym same) in
@@ -84,20 +84,20 @@ invariant_of-self c =
       orderly = c.orderly.ensures facts entries new inv.sound history.reached;
       raised = inv.raised;
       left = with_items_is a.left c.leave_all-still.new.left size ∙ left;
-      turns = subst T (sym c.put_last-2.ensures.items) (tables_next facts state new a.turns.items c.args.table answers inv.turns (λ id. inv.later (length a.turns.items) id (omega (arith, a.turns.ok.0))) empty);
+      turns = subst T (sym c.push_reserved-2.ensures.items) (tables_next facts state new a.turns.items c.args.table answers inv.turns (λ id. inv.later (length a.turns.items) id (omega (arith, a.turns.ok.0))) empty);
       still = cut_still facts new c.leave_all-still.new.left c.leave_all-still.result (λ id. none_moved state new (a.window + 1) id answers (inv.later (a.window + 1) id (omega (arith, a.rounds.ok.0, inv.tables, order)))) left c.leave_all-still.ensures.still;
-      tables = omega (arith, inv.tables, c.put_last.ensures.len, c.put_last-2.ensures.len);
-      later = λ window id late. none_moved state new window id answers (inv.later window id (omega (arith, c.put_last-2.ensures.len, late)));
-      withdrawals = omega (arith, fewer, space, c.put_last-3.ensures.len, c.put_last-3.ensures.capacity);
-      rounds_room = omega (arith, inv.rounds_room, c.put_last.ensures.capacity);
-      tables_room = omega (arith, inv.tables_room, c.put_last-2.ensures.capacity);
+      tables = omega (arith, inv.tables, c.push_reserved.ensures.len, c.push_reserved-2.ensures.len);
+      later = λ window id late. none_moved state new window id answers (inv.later window id (omega (arith, c.push_reserved-2.ensures.len, late)));
+      withdrawals = omega (arith, fewer, space, c.push_reserved-3.ensures.len, c.push_reserved-3.ensures.capacity);
+      rounds_room = omega (arith, inv.rounds_room, c.push_reserved.ensures.capacity);
+      tables_room = omega (arith, inv.tables_room, c.push_reserved-2.ensures.capacity);
     }
 
 pub returns-clause-state : goal.returns-clause-state
 returns-clause-state c =
     let a = c.self.inside in
-    let answers = cut_answers a.entries.items c.put_last-3.new.items.items c.args.number a.window c.put_last-3.ensures.items in
-    published_state a.window a.rounds.items c.put_last.new.items.items a.finals (answers_of a.entries.items) (answers_of c.put_last-3.new.items.items) a.raised.raises c.args.round c.put_last.ensures.items answers
+    let answers = cut_answers a.entries.items c.push_reserved-3.new.self.items c.args.number a.window c.push_reserved-3.ensures.items in
+    published_state a.window a.rounds.items c.push_reserved.new.self.items a.finals (answers_of a.entries.items) (answers_of c.push_reserved-3.new.self.items) a.raised.raises c.args.round c.push_reserved.ensures.items answers
     ∙ ap (λ (p : Proceeding). with_round p.state c.args.round) c.self.view_is
 
 pub returns-clause-still : goal.returns-clause-still
