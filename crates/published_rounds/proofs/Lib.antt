@@ -37,3 +37,4 @@ mod Narrows
 pub mod Papers
 pub mod Special
 mod PaperVacancies
+mod ReplyLaws

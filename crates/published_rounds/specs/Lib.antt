@@ -19,3 +19,4 @@ pub mod Numbers
 pub mod Order
 pub mod Registers
 pub mod Papers
+pub mod ReplyLaws

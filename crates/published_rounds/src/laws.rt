@@ -15,6 +15,7 @@ ghost use Rattle.published_rounds.specs.BetterOff.{BetterOffIsNoWorse, NeverHurt
 ghost use Rattle.published_rounds.specs.Numbers.{RisingNumbersKeepOrder};
 ghost use Rattle.published_rounds.specs.Order.{OnlyTheOrderCounts};
 ghost use Rattle.published_rounds.specs.Registers.{MovingUpNeverHurts, MovingUpNeverHurtsInARound, TheSameOrderGivesTheSameSeats};
+ghost use Rattle.published_rounds.specs.ReplyLaws.{RepliesDecide};
 ghost use Rattle.published_rounds.specs.Papers.{NoVacancyFillsInSoundPapers, SoundPapersAreJustified, SpecialRoundsAreJustified};
 
 /// If nobody holds two protected traits, the choice of a step is the best holders of each trait up to the protected
@@ -416,4 +417,15 @@ pub fn no_vacancy_fills_in_sound_papers()
     no_vacancy_fills_by_itself();
     few_new_holders();
     few_newly_seated();
+}
+
+/// What a reply to the question for cutoffs decides.
+pub fn replies_decide()
+    ensures { (facts : SeasonFacts) → RepliesDecide facts }
+{
+    history_laws::laws::orderly();
+    list_cutoffs::laws::cutoffs_exist();
+    list_cutoffs::laws::one_list();
+    history_laws::laws::lists_hold_choices();
+    within_cutoffs_is_seated();
 }
