@@ -3,11 +3,13 @@ ghost use Rattle.std.specs.Prelude.{◌≡◌, ◌≤◌, ℕ, List, Bool, true,
 ghost use Rattle.std.proofs.Common.{rules};
 ghost use Rattle.std.specs.Cmp.{partial_order_from_own_ties};
 ghost use Rattle.std.specs.Cmp.Lexicographic.{slice_cmp, pointwise};
-ghost use Rattle.std.specs.Cmp.Rules.{comparing};
+ghost use Rattle.std.specs.Cmp.Rules.{comparing, hashing};
+ghost use Rattle.std.specs.Hash as fed;
 ghost use Rattle.std.specs.Ordering.{nat_cmp, as_partial_cmp};
 
 use crate::padding::padded;
 use std::cmp::Ordering;
+use std::hash::{Hash, Hasher};
 use std::marker::{Model, PhantomData};
 
 /// How a short text is spelled, in at most `N` bytes.
@@ -109,5 +111,15 @@ impl<K: Spelling<N>, const N: usize> PartialOrd for ShortText<K, N> {
 
     fn partial_cmp(&self, other: &ShortText<K, N>) -> Option<Ordering> {
         Some(self.cmp(other))
+    }
+}
+
+impl<K: Spelling<N>, const N: usize> Hash for ShortText<K, N> {
+    ghost hash_input = { fed.slice fed.u8 };
+
+    ghost respects_eq = { Prim.search (hashing, rules) };
+
+    fn hash<H: Hasher>(&self, state: &mut H) {
+        self.bytes().hash(state);
     }
 }

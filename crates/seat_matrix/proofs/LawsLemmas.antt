@@ -1,6 +1,6 @@
 -- Rows have exactly one reading, and what they give is sound.
 use Rattle.std.proofs.Common.{◌≡◌, ℕ, Bool, true, false, cond, List, [], ◌∷◌, ◌++◌, map, Option, Some, None, Ok, refl, sym, ap, subst, ◌∙◌, arith}
-use Rattle.std.specs.Prelude.{◌||◌, bytes_eq, is_some}
+use Rattle.std.specs.Prelude.{◌||◌, bytes_eq, is_some, if◌then◌else◌}
 use Rattle.std.specs.List.{AllByRecursion, list_any}
 use Rattle.std.proofs.lemmas.Bool.{cond-false, cond-true, false_from_ne_true}
 use Rattle.std.proofs.lemmas.Slice.Eq.{bytes_eq-Decides}
@@ -11,7 +11,6 @@ use Rattle.section_rows.specs.Steps.{or_else}
 use Rattle.section_rows.proofs.StepsLemmas.{first_of-push}
 use Rattle.seat_matrix.proofs.Codes.{Distinct, codes-distinct}
 use Rattle.seat_matrix.proofs.SeatsLemmas as seats
-use Rattle.seat_matrix.specs.Builder.{programmes_after, with_programme}
 use Rattle.seat_matrix.specs.Laws.{AreCodes, HaveOneReading}
 use Rattle.seat_matrix.specs.Matrix.{AreEntries, IsMatrix, SeatTable, codes_after, codes_in, codes_of, entries_of, find_home, header, home_at, reading, seatings_in, with_code}
 use Rattle.seat_matrix.specs.declared.entry.Entry.{Entry}
@@ -21,6 +20,15 @@ use Rattle.seat_matrix.specs.declared.fault.MatrixKind.TheVariants.{BadHeader}
 -- programmes with their homes
 abbrev Homes : Type 0
 Homes = List (List ℕ × Home)
+
+-- the programmes with that of one more entry, unless it is among them
+abbrev with_programme : Homes → Entry → Homes
+with_programme programmes entry = if is_some (find_home entry.programme programmes) then programmes else programmes ++ (entry.programme, entry.home) ∷ []
+
+-- the programmes of entries, behind these
+abbrev programmes_after : Homes → List Entry → Homes
+programmes_after programmes [] = programmes
+programmes_after programmes (entry ∷ entries) = programmes_after (with_programme programmes entry) entries
 
 -- a home is found where the code is among the codes
 pub known_code : (code : List ℕ) (programmes : Homes) → is_some (find_home code programmes) ≡ list_any (bytes_eq code) (codes_in programmes)
@@ -37,7 +45,7 @@ codes-push [] held = refl
 codes-push (first ∷ programmes) held = ap (λ (codes : List (List ℕ)). first.0 ∷ codes) (codes-push programmes held)
 
 -- The programmes with one more have the codes with one more.
-with_programme-codes : (programmes : Homes) (entry : Entry) → codes_in (with_programme programmes entry.programme entry.home) ≡ with_code (codes_in programmes) entry.programme
+with_programme-codes : (programmes : Homes) (entry : Entry) → codes_in (with_programme programmes entry) ≡ with_code (codes_in programmes) entry.programme
 with_programme-codes programmes entry = by (is_some (find_home entry.programme programmes)) (list_any (bytes_eq entry.programme) (codes_in programmes)) (known_code entry.programme programmes)
   where
     by : (b c : Bool) → b ≡ c
@@ -47,10 +55,10 @@ with_programme-codes programmes entry = by (is_some (find_home entry.programme p
     by false true e = cc e
     by false false e = codes-push programmes (entry.programme, entry.home)
 
-pub programmes-codes : (programmes : Homes) (entries : List Entry) → codes_in (programmes_after programmes entries) ≡ codes_after (codes_in programmes) entries
+programmes-codes : (programmes : Homes) (entries : List Entry) → codes_in (programmes_after programmes entries) ≡ codes_after (codes_in programmes) entries
 programmes-codes programmes [] = refl
 programmes-codes programmes (entry ∷ entries) =
-    programmes-codes (with_programme programmes entry.programme entry.home) entries ∙ ap (λ (codes : List (List ℕ)). codes_after codes entries) (with_programme-codes programmes entry)
+    programmes-codes (with_programme programmes entry) entries ∙ ap (λ (codes : List (List ℕ)). codes_after codes entries) (with_programme-codes programmes entry)
 
 -- what was found hides what comes behind it
 known_first : {X : Type 0} (o next : Option X) (b : Bool) (x : X) → (b ≡ true → is_some o ≡ true) → or_else o next ≡ or_else o (cond b (Some x) next)
@@ -66,7 +74,7 @@ new_first None next false x = refl
 
 -- What is found with one more entry.
 with_programme-found : (code : List ℕ) (programmes : Homes) (entry : Entry) (next : Option Home)
-    → or_else (find_home code (with_programme programmes entry.programme entry.home)) next ≡ or_else (find_home code programmes) (cond (bytes_eq code entry.programme) (Some entry.home) next)
+    → or_else (find_home code (with_programme programmes entry)) next ≡ or_else (find_home code programmes) (cond (bytes_eq code entry.programme) (Some entry.home) next)
 with_programme-found code programmes entry next = by (is_some (find_home entry.programme programmes)) refl
   where
     by : (b : Bool) → is_some (find_home entry.programme programmes) ≡ b
@@ -80,9 +88,9 @@ or_none : {X : Type 0} (o : Option X) → o ≡ or_else o None
 or_none None = refl
 or_none (Some x) = refl
 
-pub programmes-found : (code : List ℕ) (programmes : Homes) (entries : List Entry) → find_home code (programmes_after programmes entries) ≡ or_else (find_home code programmes) (home_at code entries)
+programmes-found : (code : List ℕ) (programmes : Homes) (entries : List Entry) → find_home code (programmes_after programmes entries) ≡ or_else (find_home code programmes) (home_at code entries)
 programmes-found code programmes [] = or_none (find_home code programmes)
-programmes-found code programmes (entry ∷ entries) = programmes-found code (with_programme programmes entry.programme entry.home) entries ∙ with_programme-found code programmes entry (home_at code entries)
+programmes-found code programmes (entry ∷ entries) = programmes-found code (with_programme programmes entry) entries ∙ with_programme-found code programmes entry (home_at code entries)
 
 -- All entries have a matrix.
 matrix_of : (entries : List Entry) → IsMatrix entries (record { programmes = programmes_after [] entries; steps = map (seatings_in entries) (codes_of entries) })

@@ -1,14 +1,20 @@
 // A matrix in the making: what each further row is held against.
-ghost use Rattle.std.specs.Prelude.{◌≡◌, ◌≤◌, ◌∷◌, ◌++◌, [], List, OnOk, IfOk, length};
+ghost use Rattle.std.specs.Prelude.{◌≡◌, ◌≢◌, ◌≤◌, ◌∷◌, ◌++◌, [], ℕ, List, OnOk, IfOk, None, Some, bytes_eq, if◌then◌else◌, length, nat_eq};
+ghost use Rattle.std.specs.Cmp.Lexicographic.{pointwise};
+ghost use Rattle.indexmap.specs.IndexMap as index;
 ghost use Rattle.office_base.specs.Limits.{most_matrix_seats, most_programmes};
+ghost use Rattle.office_base.specs.Lists.{Pairwise};
 ghost use Rattle.section_rows.specs.Rows.{Row};
-ghost use Rattle.seat_matrix.specs.Builder.{AreNumbers, with_programme};
+ghost use Rattle.section_rows.specs.Steps.{or_else};
+ghost use Rattle.seat_matrix.specs.Builder.{AreNumbers};
+ghost use Rattle.seat_matrix.specs.Matrix.{codes_in, with_code};
 
 use crate::entry::{Entry, Home};
 use crate::fault::MatrixKind;
 use crate::fields::read_seating;
 use crate::matrix::Matrix;
 use crate::seats::{Seating, Seatings};
+use indexmap::IndexMap;
 use office_base::limits::{MOST_MATRIX_SEATS, MOST_PROGRAMMES};
 use office_base::{Code, ListId, OWN_COUNT, OWN_STEPS, OutOfMemory, ProgId, StepKind, step_number};
 use office_text::{read_number, read_step};
@@ -16,12 +22,11 @@ use section_rows::{Rows, TableBuilder};
 use std::alloc::Global;
 use std::collections::BTreeMap;
 
-/// A matrix in the making: the programmes so far in the order in which they first appeared, the number of each by its
-/// code, the seats of their steps, and all seats.
+/// A matrix in the making: the programmes so far in the order in which they first appeared, so that the index of each is
+/// its number, the seats of their steps, and all seats.
 #[derive(Drop)]
 pub(crate) struct MatrixBuilder {
-    pub(crate) programmes: Vec<(Code, Home)>,
-    pub(crate) numbers: BTreeMap<Code, ProgId>,
+    pub(crate) programmes: IndexMap<Code, Home>,
     pub(crate) steps: BTreeMap<(Code, u8), Seating>,
     pub(crate) total: u32,
 }
@@ -38,8 +43,7 @@ impl MatrixBuilder {
         ensures { Keeps [] result }
     {
         MatrixBuilder {
-            programmes: Vec::new(alloc),
-            numbers: BTreeMap::new(alloc),
+            programmes: IndexMap::new(alloc),
             steps: BTreeMap::new(alloc),
             total: 0,
         }
@@ -67,11 +71,10 @@ impl MatrixBuilder {
 
     /// The home of a programme, where it is a new programme or has the same home as before.
     fn settles(&self, programme: Code, home: Home) -> Result<Home, MatrixKind>
-        requires { (entries : List Entry) × Keeps entries self.now }
         ensures { (entries : List Entry) → Keeps entries self.now
             → result ≡ settles (home_at programme entries) (length (codes_of entries)) home }
     {
-        match self.numbers.get(&programme) {
+        match self.programmes.get(&programme) {
             None => {
                 if self.programmes.len() >= MOST_PROGRAMMES {
                     Err(MatrixKind::TooMany)
@@ -79,8 +82,7 @@ impl MatrixBuilder {
                     Ok(home)
                 }
             }
-            Some(number) => {
-                let known = self.programmes[usize::from(number.0)].1;
+            Some(known) => {
                 if known.institute != home.institute {
                     Err(MatrixKind::TwoInstitutes)
                 } else if known.list != home.list {
@@ -135,12 +137,7 @@ impl MatrixBuilder {
     {
         self.steps
             .insert((entry.programme, step_number(entry.step)), entry.seating)?;
-        settle(
-            &mut self.programmes,
-            &mut self.numbers,
-            entry.programme,
-            entry.home,
-        )?;
+        settle(&mut self.programmes, entry.programme, entry.home)?;
         self.total += u32::from(entry.seating.seats);
         Ok(())
     }
@@ -174,7 +171,7 @@ impl MatrixBuilder {
             → steps.items ≡ map (seatings_in entries) (codes_of entries)) }
     {
         let mut steps = Vec::new(alloc);
-        for (code, _) in self.programmes.as_slice() {
+        for (code, _) in self.programmes.iter() {
             steps.push(self.seatings(*code))?;
         }
         Ok(steps)
@@ -187,10 +184,11 @@ impl MatrixBuilder {
             → Keeps entries self → IsMatrix entries matrix) }
     {
         let steps = self.all_seatings(alloc)?;
-        let numbers = self.numbers.into_iter().collect(alloc)?;
+        let programmes: Vec<(Code, Home)> = self.programmes.into_iter().collect(alloc)?;
+        let numbers = number(alloc, programmes.as_slice())?;
         Ok(Matrix {
-            programmes: self.programmes,
-            numbers,
+            programmes,
+            numbers: numbers.into_iter().collect(alloc)?,
             steps,
         })
     }
@@ -250,21 +248,28 @@ impl TableBuilder for MatrixBuilder {
 }
 
 /// Gives the programme the next number, unless it has one.
-fn settle(
-    programmes: &mut Vec<(Code, Home)>,
-    numbers: &mut BTreeMap<Code, ProgId>,
-    code: Code,
-    home: Home,
-) -> Result<(), OutOfMemory>
-    requires numbers { AreNumbers programmes.old.items numbers.old }
-    requires few { length programmes.old.items ≤ most_programmes }
-    ensures programmes { OnOk result (programmes.new.items
-        ≡ with_programme programmes.old.items code home) }
-    ensures numbers { OnOk result (AreNumbers programmes.new.items numbers.new) }
+fn settle(programmes: &mut IndexMap<Code, Home>, code: Code, home: Home) -> Result<(), OutOfMemory>
+    ensures keys { OnOk result
+        (index.keys programmes.new ≡ with_code (index.keys programmes.old) code) }
+    ensures homes { OnOk result ((q : List ℕ) → index.get (pointwise nat_eq) programmes.new q
+        ≡ or_else (index.get (pointwise nat_eq) programmes.old q)
+        (if bytes_eq q code then Some home else None)) }
 {
-    if !numbers.contains_key(&code) {
-        numbers.insert(code, ProgId(programmes.len() as u16))?;
-        programmes.push((code, home))?;
+    if !programmes.contains_key(&code) {
+        programmes.insert(code, home)?;
     }
     Ok(())
+}
+
+/// Returns the number of each programme by its code.
+fn number(alloc: Global, programmes: &[(Code, Home)]) -> Result<BTreeMap<Code, ProgId>, OutOfMemory>
+    requires distinct { Pairwise (λ a b. a ≢ b) (codes_in programmes.now) }
+    requires few { length programmes.now ≤ most_programmes }
+    ensures { IfOk result (λ numbers. AreNumbers programmes.now numbers) }
+{
+    let mut numbers = BTreeMap::new(alloc);
+    for i in 0..programmes.len() {
+        numbers.insert(programmes[i].0, ProgId(i as u16))?;
+    }
+    Ok(numbers)
 }
