@@ -60,7 +60,7 @@ seeker_same table (person ∷ people) (l ∷ lists) (t ∷ told) (s ∷ seeks) (
 seeker_same table (person ∷ people) (l ∷ lists) (t ∷ told) (s ∷ seeks) (q ∷ sought) (suc j) first second same same' =
     seeker_same table people lists told seeks sought j (omega (arith, first)) (omega (arith, second)) same same'
 
-tells_otherwise : (table : SeatTable) (people : List Person) (lists told : List (List ProgId)) (seeks sought : List Seek) (i : ℕ) → AreOtherwise i lists told seeks sought
+pub tells_otherwise : (table : SeatTable) (people : List Person) (lists told : List (List ProgId)) (seeks sought : List Seek) (i : ℕ) → AreOtherwise i lists told seeks sought
     → TellsAnother i (seekers_of table people lists seeks) (seekers_of table people told sought)
 tells_otherwise table people lists told seeks sought i h = record {
   same = as_many_seekers table table people lists told seeks sought h.as_many_lists h.as_many_seeks;
