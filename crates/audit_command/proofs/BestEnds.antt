@@ -2,8 +2,8 @@
 use Rattle.std.proofs.Common.{◌≡◌, ◌⊎◌, inl, inr, ℕ, List, Option, Some, None, Result, Ok, Err, refl, subst}
 use Rattle.std.specs.Prelude.{IfOk, IfErr}
 use Rattle.office_base.specs.Outside.{Appends}
-use Rattle.season_audit.specs.declared.verdict.BestVerdict.{BestVerdict}
-use Rattle.season_audit.specs.declared.verdict.BestVerdict.TheVariants.{Best, NotBest}
+use Rattle.best_audit.specs.declared.verdict.BestVerdict.{BestVerdict}
+use Rattle.best_audit.specs.declared.verdict.BestVerdict.TheVariants.{Best, NotBest}
 use Rattle.dossier_file.specs.Dossier.{GaveDossier}
 use Rattle.dossier_file.specs.declared.dossier.Dossier.{Dossier}
 use Rattle.command_answers.specs.Answers.{HasLeft, IsFailureOf, Tells}

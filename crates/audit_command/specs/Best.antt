@@ -10,9 +10,9 @@ use Rattle.list_audit.specs.declared.clause.Clause.{Clause}
 use Rattle.audit_rules.specs.declared.verdict.Verdict.TheVariants.{Sound, Broken}
 use Rattle.season_facts.specs.Season.{facts_of}
 use Rattle.season_audit.specs.Audit.{papers_in}
-use Rattle.season_audit.specs.Best.{IsBestVerdict}
-use Rattle.season_audit.specs.declared.verdict.BestVerdict.{BestVerdict}
-use Rattle.season_audit.specs.declared.verdict.BestVerdict.TheVariants.{Best, NotBest}
+use Rattle.best_audit.specs.Best.{IsBestVerdict}
+use Rattle.best_audit.specs.declared.verdict.BestVerdict.{BestVerdict}
+use Rattle.best_audit.specs.declared.verdict.BestVerdict.TheVariants.{Best, NotBest}
 use Rattle.dossier_file.specs.Dossier.{IsDossier}
 use Rattle.dossier_file.specs.declared.dossier.Dossier.{Dossier}
 use Rattle.command_answers.specs.Answers.{Answers, HasLeft, Tells}

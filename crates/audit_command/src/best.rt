@@ -9,10 +9,11 @@ ghost use Rattle.audit_command.specs.Best.{IsBestAnswerTo, IsBestOf, best_answer
 use crate::answer::{Audited, dossier_failure};
 use crate::texts::{best_text, verdict_text};
 use audit_rules::Verdict;
+use best_audit::{BestVerdict, best_rounds};
 use command_answers::Failure;
 use dossier_file::Dossier;
 use office_base::{OutOfMemory, Source};
-use season_audit::{BestVerdict, audit, best_rounds};
+use season_audit::audit;
 use std::alloc::Global;
 
 /// Returns the verdict on the dossier that the source gives and, if no clause is broken, whether every published round is the best one.

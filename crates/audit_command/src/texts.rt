@@ -5,11 +5,11 @@ ghost use Rattle.audit_command.specs.Best.{best_line};
 ghost use Rattle.audit_command.specs.Texts.{broken_line, candidate_or_dash, code_or_dash, dossier_line, published_line, sound_line, verdict_line};
 
 use audit_rules::Verdict;
+use best_audit::BestVerdict;
 use dossier_file::DossierFault;
 use list_audit::Clause;
 use office_base::{CandId, OutOfMemory, ProgId, Text};
 use office_text::push_number;
-use season_audit::BestVerdict;
 use season_texts::fault_text;
 use seat_matrix::Matrix;
 use std::alloc::Global;

@@ -4,7 +4,8 @@
 // `specs/Verdict` what a verdict says. There is one verdict, and if no clause is broken, every round is fair and nobody falls.
 // The checks are the standing of candidates, which seats a round's text gives, who seeks what, who applies to which programme,
 // which answers and raises a replay takes, and whether final admissions are right.
-// It calls nothing that makes rounds or judges requests for the office, and knows nothing of the texts in which papers are published.
+// It calls nothing that judges requests for the office. It must never know how a round is made, whom a programme chooses, or in
+// which texts papers are published.
 #![tactic(auto)]
 
 pub mod cut;

@@ -2,8 +2,8 @@
 use Rattle.std.proofs.Common.{◌≡◌, ◌++◌, inl, inr, ℕ, List, Some, refl, sym, ap, ◌∙◌}
 use Rattle.audit_rules.specs.declared.verdict.Verdict.{Verdict}
 use Rattle.audit_rules.specs.declared.verdict.Verdict.TheVariants.{Sound, Broken}
-use Rattle.season_audit.specs.declared.verdict.BestVerdict.{BestVerdict}
-use Rattle.season_audit.specs.declared.verdict.BestVerdict.TheVariants.{Best, NotBest}
+use Rattle.best_audit.specs.declared.verdict.BestVerdict.{BestVerdict}
+use Rattle.best_audit.specs.declared.verdict.BestVerdict.TheVariants.{Best, NotBest}
 use Rattle.one_output.specs.VerdictLaws.{OneVerdictOfBytes}
 use Rattle.command_answers.specs.Status.{IsAnswered}
 use Rattle.command_answers.specs.Writes.{Writes}

@@ -12,9 +12,9 @@ use Rattle.dossier_file.specs.declared.dossier.Dossier.{Dossier}
 use Rattle.dossier_file.specs.declared.papers.Papers.{Papers as Read}
 use Rattle.audit_rules.specs.Papers.{Papers}
 use Rattle.season_audit.specs.Audit.{papers_in}
-use Rattle.season_audit.specs.Best.{IsBestVerdict}
-use Rattle.season_audit.specs.Laws.{OneBestVerdict}
-use Rattle.season_audit.specs.declared.verdict.BestVerdict.{BestVerdict}
+use Rattle.best_audit.specs.Best.{IsBestVerdict}
+use Rattle.best_audit.specs.Laws.{OneBestVerdict}
+use Rattle.best_audit.specs.declared.verdict.BestVerdict.{BestVerdict}
 use Rattle.one_output.specs.Laws.{OneKeptSeason}
 use Rattle.dossier_file.proofs.SplitLemmas.{one_split}
 

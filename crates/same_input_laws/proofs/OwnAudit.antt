@@ -4,8 +4,8 @@ use Rattle.season_facts.specs.Season.{facts_of}
 use Rattle.audit_rules.specs.Verdict.{IsVerdict}
 use Rattle.audit_rules.specs.declared.verdict.Verdict.{Verdict}
 use Rattle.audit_rules.specs.declared.verdict.Verdict.TheVariants.{Sound, Broken}
-use Rattle.season_audit.specs.Best.{IsBestVerdict}
-use Rattle.season_audit.specs.declared.verdict.BestVerdict.TheVariants.{Best, NotBest}
+use Rattle.best_audit.specs.Best.{IsBestVerdict}
+use Rattle.best_audit.specs.declared.verdict.BestVerdict.TheVariants.{Best, NotBest}
 use Rattle.season_audit.specs.Audit.{papers_in}
 use Rattle.dossier_file.specs.Dossier.{IsDossier}
 use Rattle.dossier_file.specs.declared.dossier.Dossier.{Dossier}

@@ -60,8 +60,8 @@ use Rattle.audit_rules.specs.declared.verdict.Verdict.TheVariants.{Sound}
 use Rattle.audit_rules.proofs.Agreeing.{named_by_id, somebody_named}
 use Rattle.audit_rules.proofs.FairCuts.{enters, full_seekers}
 use Rattle.audit_rules.proofs.Ordering.{left_same}
-use Rattle.season_audit.specs.Best.{AreBestRounds, IsBestCut, IsBestVerdict}
-use Rattle.season_audit.specs.declared.verdict.BestVerdict.TheVariants.{Best}
+use Rattle.best_audit.specs.Best.{AreBestRounds, IsBestCut, IsBestVerdict}
+use Rattle.best_audit.specs.declared.verdict.BestVerdict.TheVariants.{Best}
 use Rattle.list_texts.specs.declared.lists.ListRead.{ListRead}
 use Rattle.publish.specs.declared.reads.FinalRead.{FinalRead}
 use Rattle.publish.specs.declared.reads.RoundRead.{RoundRead}

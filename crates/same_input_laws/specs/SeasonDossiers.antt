@@ -32,8 +32,8 @@ use Rattle.command_answers.specs.declared.status.Status.TheVariants.{Ok as Done}
 use Rattle.audit_command.specs.Audit.{IsAuditText}
 use Rattle.audit_command.specs.Best.{IsBestText, best_line}
 use Rattle.audit_command.specs.Texts.{sound_line}
-use Rattle.season_audit.specs.Best.{IsBestVerdict}
-use Rattle.season_audit.specs.declared.verdict.BestVerdict.TheVariants.{Best}
+use Rattle.best_audit.specs.Best.{IsBestVerdict}
+use Rattle.best_audit.specs.declared.verdict.BestVerdict.TheVariants.{Best}
 
 -- ---- what a state holds, as its texts say it
 

@@ -79,7 +79,7 @@ pub fn audits_are_one()
     one_output::laws::one_season();
     dossier_file::laws::one_dossier();
     dossier_file::laws::texts_are_one();
-    season_audit::laws::one_best_verdict();
+    best_audit::laws::one_best_verdict();
 }
 
 /// Each season with its requests has a dossier: every text that is due exists, says what the office holds, and an audit finds no
@@ -101,7 +101,7 @@ pub fn seasons_have_dossiers()
     one_output::laws::one_verdict_of_bytes();
     dossier_file::laws::one_dossier();
     dossier_file::laws::texts_are_one();
-    season_audit::laws::one_best_verdict();
+    best_audit::laws::one_best_verdict();
 }
 
 /// Two calls of the program with the same words, over the same visible bytes and tables, that both end with an answer end in

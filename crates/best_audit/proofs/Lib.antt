@@ -1,0 +1,4 @@
+mod Gaining
+mod OneBest
+mod Replaying
+mod Seeking

@@ -1,4 +1,0 @@
-use Rattle.season_audit.proofs.cut.gain_at.Given as goal
-
-abbrev pub ghost-gain_of_cut : goal.ghost-gain_of_cut
-ghost-gain_of_cut g a = g.cut

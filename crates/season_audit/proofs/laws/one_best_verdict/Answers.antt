@@ -1,5 +1,0 @@
-use Rattle.season_audit.proofs.OneBest.{one_best}
-use Rattle.season_audit.proofs.laws.one_best_verdict.Goals as goal
-
-pub returns : goal.returns
-returns c = one_best
