@@ -1,7 +1,8 @@
-"""What some crates may not name. checks/repository runs it.
+"""What some crates may not name, and what the office's crates have to name. checks/repository runs it.
 
 - The crates of the audit's first verdict make no round and choose nobody: none of them reaches the engine of rounds by crates.txt, and of the crates that choose
   their code names only laws and a sort.
+- The office builds on ported crates of the kit and does not write their work anew: each of them is listed and named by a crate that is no test.
 
 It also tries itself: `trial` takes a rule's premise away and says if no fault comes of it."""
 import re
@@ -16,6 +17,18 @@ AUDIT = ("list_audit", "audit_rules", "season_audit")
 ENGINE = "apply_engine"
 # the crates that choose, and what the audit's code may name of them: laws run nothing, and people have to be put in merit order
 MAY_NAME = {"merit_choice": {"laws", "in_merit_order"}, "open_then_category": {"laws"}}
+# what the office uses each ported crate for
+USES = {
+    "csv": "reads the rows of sections, and writes choice lists with units",
+    "indexmap": "numbers codes in the order in which they first appear",
+    "sqlite": "keeps the records of a season",
+    "httparse": "reads the heads of HTTP messages",
+    "http": "has status codes and their phrases",
+    "matchit": "finds the route of a path",
+    "serde_json": "reads and writes bodies in JSON",
+    "clap": "divides the words of a command line",
+    "atomic_table": "carries the desk, where several threads have one history",
+}
 
 
 def without_comments(text: str) -> str:
@@ -54,13 +67,21 @@ def apart(deps: Deps, codes: Codes) -> list[str]:
     return faults
 
 
+def unused(deps: Deps, codes: Codes) -> list[str]:
+    """Returns the ported crates that no crate of the office names."""
+    used = {it for crate, listed in deps.items() if not crate.endswith("_trials") for it in listed if re.search(rf"\b{it}::", codes[crate])}
+    return [f"crates.txt: no crate of the office uses {it}, which {what}" for it, what in USES.items() if it not in used]
+
+
 def trial(deps: Deps, codes: Codes) -> list[str]:
-    """Returns which of these breaks brings no fault: an audit over the engine, or one that chooses."""
+    """Returns which of these breaks brings no fault: an audit over the engine, an audit that chooses, a ported crate that is only listed."""
     above = {**deps, "list_audit": [*deps["list_audit"], ENGINE]}
     choosing = {**codes, "season_audit": codes["season_audit"] + "use merit_choice::{in_merit_order, choose};"}
+    listed = {crate: re.sub(r"\bclap::", "", code) for crate, code in codes.items()}
     tried = {
         "an audit over the engine": sum(f"reaches {ENGINE}," in it for it in apart(above, codes)) == len(AUDIT),
         "an audit that chooses": any("merit_choice::choose," in it for it in apart(deps, choosing)),
+        "a ported crate that no code names": any("uses clap," in it for it in unused(deps, listed)),
     }
     return [f"checks/crate_rules.py: {what} brings no fault" for what, seen in tried.items() if not seen]
 
@@ -68,4 +89,4 @@ def trial(deps: Deps, codes: Codes) -> list[str]:
 def faults() -> list[str]:
     """Returns what the crates do otherwise, and what of it would not be seen."""
     codes = {it: code_of(it) for it in crates()}
-    return [*apart(crates(), codes), *trial(crates(), codes)]
+    return [*apart(crates(), codes), *unused(crates(), codes), *trial(crates(), codes)]
