@@ -3,7 +3,7 @@ use Rattle.std.proofs.Common.{◌≡◌, inl, inr, ℕ, true, List, Some, Ok, re
 use Rattle.office_base.specs.declared.asks.Request.{Request}
 use Rattle.season_file.specs.Season.{IsSeasonWith, content_of}
 use Rattle.season_file.specs.declared.season.Season.{Season}
-use Rattle.units_command.specs.Input.{expansion}
+use Rattle.quota_units.specs.Input.{expansion}
 use Rattle.command_answers.specs.Answers.{HaveOneAnswer}
 use Rattle.units_command.specs.Units.{IsLeftExpansion, IsUnitsInput, units_answers}
 use Rattle.same_input_laws.specs.RunOutputs.{RunsAreOne}

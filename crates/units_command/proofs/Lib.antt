@@ -1,16 +1,3 @@
-mod AlikeLemmas
-mod Faults
-mod HeadLemmas
-mod LineLemmas
-mod Living
-mod Mapped
-mod OnLists
-mod ReadBack
-mod Reading
-mod Spaces
-mod TableLemmas
-mod WriterLemmas
-mod WritingLemmas
 mod SeatedLiving
 mod OneUnits
 mod UnitsEnds

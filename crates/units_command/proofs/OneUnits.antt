@@ -3,8 +3,8 @@ use Rattle.std.proofs.Common.{◌≡◌, ◌⊎◌, inl, inr, ℕ, true, List, R
 use Rattle.command_answers.specs.Answers.{HaveOneAnswer}
 use Rattle.season_commands.specs.Check.{IsBundle, IsBundleFaultLine, IsFaultyBundle, bundle_answers}
 use Rattle.section_rows.proofs.StageLemmas.{not_both, one_err, one_ok}
-use Rattle.units_command.specs.Input.{expansion}
-use Rattle.units_command.specs.declared.fault.UnitFault.{UnitFault}
+use Rattle.quota_units.specs.Input.{expansion}
+use Rattle.quota_units.specs.declared.fault.UnitFault.{UnitFault}
 use Rattle.units_command.specs.Texts.{unit_line}
 use Rattle.units_command.specs.Units.{IsFaultyUnits, IsUnitsFaultLine, IsUnitsInput, units_answers}
 

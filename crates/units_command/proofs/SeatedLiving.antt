@@ -23,10 +23,10 @@ use Rattle.season_facts.proofs.Sound.{given_sound}
 use Rattle.round_options.specs.Options.{holds}
 use Rattle.history_laws.specs.Course.{IsCourse}
 use Rattle.history_laws.proofs.Fits.{seat_is}
-use Rattle.units_command.specs.Expansion.{IsExpansion}
-use Rattle.units_command.specs.Homes.{Homes}
-use Rattle.units_command.specs.Mapping.{home_end, other_end}
-use Rattle.units_command.specs.Reads.{LivesRight}
+use Rattle.quota_units.specs.Expansion.{IsExpansion}
+use Rattle.quota_units.specs.Homes.{Homes}
+use Rattle.quota_units.specs.Mapping.{home_end, other_end}
+use Rattle.quota_units.specs.Reads.{LivesRight}
 use Rattle.units_command.specs.Units.{AlwaysLiveRight, FinalsLiveRight, SeatsLiveRight}
 
 -- what is at a place of the list is in the list

@@ -21,11 +21,11 @@ use Rattle.command_answers.specs.declared.status.Status.{Status}
 use Rattle.command_answers.proofs.Ended.{all_left, answer_is_written, long_left}
 use Rattle.season_commands.specs.Check.{IsBundle, TellsSeasonFault}
 use Rattle.season_commands.specs.Run.{EndsSeason}
-use Rattle.units_command.specs.Expansion.{GaveUnitFault, IsUnitFault}
-use Rattle.units_command.specs.Homes.{states_of, units_of}
-use Rattle.units_command.specs.Input.{expanded, expansion, input_of, with_row}
-use Rattle.units_command.specs.declared.fault.UnitFault.{UnitFault}
-use Rattle.units_command.specs.declared.fault.UnitFault.TheVariants.{ReadFault, TooLong, BadFirstLine, Section, BadUnit, BadState, OutOfMemory}
+use Rattle.quota_units.specs.Expansion.{GaveUnitFault, IsUnitFault}
+use Rattle.quota_units.specs.Homes.{states_of, units_of}
+use Rattle.quota_units.specs.Input.{expanded, expansion, input_of, with_row}
+use Rattle.quota_units.specs.declared.fault.UnitFault.{UnitFault}
+use Rattle.quota_units.specs.declared.fault.UnitFault.TheVariants.{ReadFault, TooLong, BadFirstLine, Section, BadUnit, BadState, OutOfMemory}
 use Rattle.units_command.specs.Texts.{unit_line}
 use Rattle.units_command.specs.Units.{EndsUnits, IsFaultyUnits, IsLeftExpansion, TellsUnitFault, units_answers}
 

@@ -1,11 +1,2 @@
-pub mod Expansion
-pub mod Homes
-pub mod Input
-pub mod Living
-pub mod Mapping
-pub mod Quoted
-pub mod Reads
-pub mod Spelled
-pub mod Writing
 pub mod Texts
 pub mod Units

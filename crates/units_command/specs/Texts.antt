@@ -2,8 +2,8 @@
 use Rattle.std.specs.Prelude.{ℕ, List, ◌++◌, codes}
 use Rattle.std.specs.Fmt.{decimal}
 use Rattle.office_base.specs.FaultLines.{memory_line, read_line}
-use Rattle.units_command.specs.declared.fault.UnitFault.{UnitFault}
-use Rattle.units_command.specs.declared.fault.UnitFault.TheVariants.{ReadFault, TooLong, BadFirstLine, Section, BadUnit, BadState, DirectUnit, NoState, OutOfMemory}
+use Rattle.quota_units.specs.declared.fault.UnitFault.{UnitFault}
+use Rattle.quota_units.specs.declared.fault.UnitFault.TheVariants.{ReadFault, TooLong, BadFirstLine, Section, BadUnit, BadState, DirectUnit, NoState, OutOfMemory}
 
 -- a fault at a line or a row, counted from 1
 abbrev pub numbered_line : List ℕ → ℕ → List ℕ → List ℕ

@@ -13,12 +13,12 @@ use Rattle.office_moves.specs.History.{Reaches}
 use Rattle.season_facts.specs.Season.{facts_of}
 use Rattle.office_moves.specs.State.{State, opening, seat_in}
 use Rattle.office_moves.specs.declared.moves.Entry.{Entry}
-use Rattle.units_command.specs.Expansion.{IsExpansion}
-use Rattle.units_command.specs.Homes.{Homes}
-use Rattle.units_command.specs.Input.{expansion}
-use Rattle.units_command.specs.Reads.{LivesRight}
-use Rattle.units_command.specs.declared.fault.UnitFault.{UnitFault}
-use Rattle.units_command.specs.declared.fault.UnitFault.TheVariants.{ReadFault, OutOfMemory as NoUnitMemory}
+use Rattle.quota_units.specs.Expansion.{IsExpansion}
+use Rattle.quota_units.specs.Homes.{Homes}
+use Rattle.quota_units.specs.Input.{expansion}
+use Rattle.quota_units.specs.Reads.{LivesRight}
+use Rattle.quota_units.specs.declared.fault.UnitFault.{UnitFault}
+use Rattle.quota_units.specs.declared.fault.UnitFault.TheVariants.{ReadFault, OutOfMemory as NoUnitMemory}
 use Rattle.command_answers.specs.Answers.{Answers}
 use Rattle.command_answers.specs.Writes.{IsTextOf, Writes}
 use Rattle.command_answers.specs.declared.failure.Failure.{Failure}

@@ -3,10 +3,10 @@ ghost use Rattle.std.specs.Prelude.{◌≡◌, IfOk};
 ghost use Rattle.units_command.specs.Texts.{numbered_line, unit_line};
 ghost use Rattle.units_command.specs.Units.{TellsUnitFault};
 
-use crate::UnitFault;
 use command_answers::Failure;
 use office_base::{OutOfMemory, Text};
 use office_text::push_number;
+use quota_units::UnitFault;
 use std::alloc::Global;
 
 /// Returns the failure that reports why there is no plain bundle.

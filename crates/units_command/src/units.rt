@@ -8,12 +8,12 @@ ghost use Rattle.season_commands.specs.Outside.{Outputs, outside_of};
 ghost use Rattle.season_commands.specs.Run.{RunsInput};
 ghost use Rattle.units_command.specs.Units.{EndsUnits, IsFaultyUnits, IsLeftExpansion, IsUnitsInput, units_answers};
 
-use crate::expand;
 use crate::laws::{one_units_answer, seats_right};
 use crate::telling::unit_failure;
 use command_answers::{Failure, Status, tell_failure};
 use keeper_mem::Keeper;
 use office_base::{Sink, Source};
+use quota_units::expand;
 use request_rows::Script;
 use season_commands::{bundle_failure, run_script};
 use season_file::Season;

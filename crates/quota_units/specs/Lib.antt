@@ -1,0 +1,9 @@
+pub mod Expansion
+pub mod Homes
+pub mod Input
+pub mod Living
+pub mod Mapping
+pub mod Quoted
+pub mod Reads
+pub mod Spelled
+pub mod Writing

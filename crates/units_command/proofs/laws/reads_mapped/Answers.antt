@@ -1,5 +1,0 @@
-use Rattle.units_command.proofs.Reading.{reads_mapped}
-use Rattle.units_command.proofs.laws.reads_mapped.Goals as goal
-
-pub returns : goal.returns
-returns c = reads_mapped (record { replaceable = c.choices_may_be_replaced.ensures; whole = c.read_back.ensures.whole })
