@@ -1,3 +1,4 @@
+mod FirstRow
 pub mod RecordLemmas
 mod RowsLemmas
 pub mod StageLemmas

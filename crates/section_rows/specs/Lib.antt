@@ -1,3 +1,4 @@
+pub mod FirstFault
 pub mod Reading
 pub mod Rows
 pub mod Steps

@@ -8,6 +8,7 @@
 #![tactic(auto)]
 
 pub mod fault;
+pub mod laws;
 pub mod rows;
 pub mod table;
 
