@@ -9,6 +9,7 @@ mod SpecialEnds
 mod Remaining
 mod SpecialRounds
 mod Answered
+mod BareStates
 mod Calls
 mod Dossiers
 mod DuePapers
@@ -17,5 +18,8 @@ mod Joined
 mod OwnAudit
 mod OwnDossier
 mod OwnPapers
+mod OwnRounds
+mod SameRounds
 mod SeasonDossiers
 mod ShownLists
+mod ToldRows

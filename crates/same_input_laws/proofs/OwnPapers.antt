@@ -161,6 +161,18 @@ told_along number seat (p ∷ people) (suc i) person rising at = by (seat p.id.0
         ap (λ (b : Bool). if b then Some (let s : Seat = record { prog = held.prog; step = held.step } in s) else seat_told (rows_along number seat people) person.id.0)
         (ne_eqb p.id.0 person.id.0 (λ e. omega (arith, e, less))) ∙ rest
 
+-- the rows of a round tell its seats
+pub seats_of_rows : (facts : SeasonFacts) (round : Round) → IsSound facts → length round.seats ≡ length facts.people → seats_told (allot_rows facts round) facts.people ≡ round.seats
+seats_of_rows facts round sound full =
+    same_places (seats_told (allot_rows facts round) facts.people) round.seats (length-map facts.people (λ (p : Person). seat_told (allot_rows facts round) p.id.0) ∙ sym full)
+    (λ i x y at at'.
+    let less = slice_get_within round.seats i y at' in
+    let person = there_is facts.people i (omega (arith, less, full)) in
+    let mine = map_at (λ (p : Person). seat_told (allot_rows facts round) p.id.0) facts.people i person.0 person.1 in
+    let told = told_along round.number (seat_of facts (Some round)) facts.people i person.0 sound.ranks.rising person.1 in
+    let held = ap (λ (o : Option (Option Seat)). option_and_then (λ s. s) o) (at_person-get facts.people round.seats i person.0 sound.ranks.rising person.1 ∙ at') in
+    same_Some x (seat_told (allot_rows facts round) person.0.id.0) (sym at ∙ mine) ∙ (told ∙ held))
+
 -- the laws of programmes on which this rests
 pub record Laws : Type 0 where
   pub size : ChoiceSize
@@ -191,14 +203,7 @@ module _ (laws : Laws) (facts : SeasonFacts) (sound : IsSound facts) (papers : P
   seat_here i person at = let less = slice_get_within facts.people i person at in let size = full in there_is round.seats i (omega (arith, less, size))
 
   seats_same : seats_told (rows_after papers old.now) facts.people ≡ round.seats
-  seats_same =
-      same_places (seats_told (rows_after papers old.now) facts.people) round.seats (length-map facts.people (λ (p : Person). seat_told (rows_after papers old.now) p.id.0) ∙ sym full)
-      (λ i x y at at'.
-      let less = slice_get_within round.seats i y at' in
-      let size = full in
-      let person = there_is facts.people i (omega (arith, less, size)) in
-      let mine = map_at (λ (p : Person). seat_told (rows_after papers old.now) p.id.0) facts.people i person.0 person.1 in
-      same_Some x (seat_given papers old person.0.id.0) (sym at ∙ mine) ∙ given i person.0 y person.1 at')
+  seats_same = ap (λ (rows : List AllotRow). seats_told rows facts.people) rows_are ∙ seats_of_rows facts round sound full
 
   round_is : round_of facts papers old ≡ round
   round_is = λ i. record { number = sym next.number i; seeks = sym next.sought i; seats = seats_same i; programmes = lists_are i }
@@ -312,9 +317,9 @@ module _ (laws : Laws) (facts : SeasonFacts) (sound : IsSound facts) (papers : P
 -- ---- each request
 
 -- what is published of a state is in the last one
-record IsPart (facts : SeasonFacts) (state final : State) : Type 0 where
-  rounds : (more : List Round) × (final.rounds ≡ state.rounds ++ more)
-  finals : facts.rounds < state.now → final.finals ≡ state.finals
+pub record IsPart (facts : SeasonFacts) (state final : State) : Type 0 where
+  pub rounds : (more : List Round) × (final.rounds ≡ state.rounds ++ more)
+  pub finals : facts.rounds < state.now → final.finals ≡ state.finals
 
 part_before : (facts : SeasonFacts) (old mid final : State) (request : Request) (reply : Reply) → Does facts old (decided facts old request) reply mid → IsPart facts mid final → IsPart facts old final
 part_before facts old mid final request reply does part =
@@ -329,7 +334,7 @@ part_before facts old mid final request reply does part =
     go over None e = ap (λ (s : State). s.finals) (unmoved facts old mid reply (decided facts old request) e does)
     go over (Some act) e = (move_steps facts old mid request act reply e does).ended over
 
-part_of : (facts : SeasonFacts) (old final : State) (script : List Request) (output : List ℕ) → Answers facts old script output final → IsPart facts old final
+pub part_of : (facts : SeasonFacts) (old final : State) (script : List Request) (output : List ℕ) → Answers facts old script output final → IsPart facts old final
 part_of facts old final [] output answers = subst (λ (s : State). IsPart facts old s) (sym answers.1) (record { rounds = ([], sym (append-nil old.rounds)); finals = λ over. refl })
 part_of facts old final (request ∷ script) output answers =
     part_before facts old answers.1 final request answers.0 answers.3 (part_of facts answers.1 final script answers.2 answers.5)

@@ -7,3 +7,4 @@ pub mod Calls
 pub mod Joined
 pub mod AuditOutputs
 pub mod SeasonDossiers
+pub mod OwnRounds

@@ -7,6 +7,7 @@ ghost use Rattle.same_input_laws.specs.SpecialOutputs.{SpecialsAreOne};
 ghost use Rattle.same_input_laws.specs.Calls.{CallsAreOne};
 ghost use Rattle.same_input_laws.specs.AuditOutputs.{EachAuditIsOne};
 ghost use Rattle.same_input_laws.specs.SeasonDossiers.{SeasonsHaveDossiers};
+ghost use Rattle.same_input_laws.specs.OwnRounds.{SoundAndBestAreOwn};
 
 use keeper_mem::Keeper;
 use office_base::{Sink, Source};
@@ -102,6 +103,18 @@ pub fn seasons_have_dossiers()
     dossier_file::laws::one_dossier();
     dossier_file::laws::texts_are_one();
     best_audit::laws::one_best_verdict();
+}
+
+/// In a dossier of which no clause is broken and each round is the best one, rounds and final admissions are those that the office
+/// publishes while it answers the dossier's requests, byte for byte.
+pub fn sound_and_best_are_own()
+    ensures { SoundAndBestAreOwn }
+{
+    one_output::laws::one_season();
+    history_laws::laws::orderly();
+    history_laws::laws::history_grows();
+    season_laws::laws::published_is_read();
+    round_laws::laws::choose_well();
 }
 
 /// Two calls of the program with the same words, over the same visible bytes and tables, that both end with an answer end in
