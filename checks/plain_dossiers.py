@@ -327,10 +327,32 @@ def fault_of_generated(program, count, seed, plainly):
     return fault_of_audit(program, f"the dossier of generate {count} {seed}", given, *told)
 
 
+def without_lists(lines: list[str]) -> list[str]:
+    """Returns the lines of published texts that belong to rounds and to final admissions."""
+    kept, inside = [], False
+    for line in lines:
+        inside = inside or line.startswith(("round ", "final "))
+        kept += [line] if inside else []
+        inside = inside and not line.startswith("end ")
+    return kept
+
+
+def fault_of_own(program: str, label: str, given: bytes) -> str | None:
+    """Returns why a dossier that the program calls sound and best has other rounds or final admissions than the plain office publishes for it, or None."""
+    wrote, status = called(program, ["audit", "best"], given, "/")
+    if status:
+        return None
+    season, _, published = re.sub(r"^(\[\w+\]),*\r?$", r"\1", given.decode(), flags=re.M).partition("[published]\n")
+    own, found = (without_lists(it) for it in (Dossier(season).published(), published.split("\n")))
+    return None if own == found else f"{label}: {wrote.decode().split()} of rounds and final admissions that are not the office's"
+
+
 def trials(program, dossiers, seasons):
-    """What is tried, each a call that gives a fault or None: the verdict on each of these dossiers, and that the dossiers of seasons that are generated from these
-    numbers are sound."""
-    for dossier in dossiers:
-        yield functools.partial(fault_of_audit, program, *dossier)
+    """What is tried, each a call that gives a fault or None: the verdict on each of these dossiers, that those which are sound and best have the office's own rounds,
+    and that the dossiers of seasons that are generated from these numbers are sound."""
+    for label, given, told, status in dossiers:
+        yield functools.partial(fault_of_audit, program, label, given, told, status)
+        if not status:
+            yield functools.partial(fault_of_own, program, label, given)
     for count, seed in seasons:
         yield functools.partial(fault_of_generated, program, count, seed, count <= 1000)
