@@ -8,7 +8,7 @@ use Rattle.command_answers.specs.Writes.{IsTextOf, IsTextOut, Writes, status_of,
 use Rattle.command_answers.specs.declared.failure.Failure.{Failure}
 use Rattle.command_answers.specs.declared.failure.Failure.TheVariants.{Read, Bad, NoMemory}
 use Rattle.command_answers.specs.declared.status.Status.{Status}
-use Rattle.command_answers.specs.declared.status.Status.TheVariants.{Ok as Done, BadInput, ReadFault, WriteFault, OutOfMemory}
+use Rattle.command_answers.specs.declared.status.Status.TheVariants.{Ok as Done, BadInput, ReadFault, WriteFault, KeeperFault, OutOfMemory, DoorFault}
 
 -- The text of some status was written.
 pub told_is_written : (IsText : Status → List ℕ → Type 0) (status result : Status) (text : List ℕ) (before after : Option (List ℕ)) (failed : Type 0)
@@ -65,6 +65,32 @@ fault_is_refused answers left failed (Ok output) result before after broke laws 
 fault_is_refused answers left failed (Err Read) result before after broke laws made cause told tells read wrote = absurd (read cause)
 fault_is_refused answers left failed (Err (Bad line)) result before after broke laws made cause told tells read wrote = inl (status_is_told BadInput result line before after broke told wrote)
 fault_is_refused answers left failed (Err NoMemory) result before after broke laws made cause told tells read wrote = inr (status_is_told OutOfMemory result _ before after broke told wrote)
+
+-- The status of an answer is no fault of the sink or the keeper, and a read fault only if the source failed.
+pub read_alone : (answers : Answers) (left : Option (List ℕ)) (failed : Type 0) (answer : Result (List ℕ) Failure) → IfErr answer (IsFailureOf answers left failed) → ReadFault ≡ status_of answer → failed
+read_alone answers left failed (Ok output) cause same = absurd (cc same)
+read_alone answers left failed (Err Read) cause same = cause
+read_alone answers left failed (Err (Bad line)) cause same = absurd (cc same)
+read_alone answers left failed (Err NoMemory) cause same = absurd (cc same)
+
+pub no_write : (answer : Result (List ℕ) Failure) → WriteFault ≡ status_of answer → ⊥
+no_write (Ok output) same = cc same
+no_write (Err Read) same = cc same
+no_write (Err (Bad line)) same = cc same
+no_write (Err NoMemory) same = cc same
+
+pub no_keeper : (answer : Result (List ℕ) Failure) → KeeperFault ≡ status_of answer → ⊥
+no_keeper (Ok output) same = cc same
+no_keeper (Err Read) same = cc same
+no_keeper (Err (Bad line)) same = cc same
+no_keeper (Err NoMemory) same = cc same
+
+-- A fault of a door is none of an answer's statuses.
+pub no_door : (answer : Result (List ℕ) Failure) → DoorFault ≡ status_of answer → ⊥
+no_door (Ok output) same = cc same
+no_door (Err Read) same = cc same
+no_door (Err (Bad line)) same = cc same
+no_door (Err NoMemory) same = cc same
 
 -- If the status reports no fault of either side, the source did not fail.
 pub source_held : (answer : Result (List ℕ) Failure) (result : Status) (before after : Option (List ℕ)) (broke Held : Type 0) → ((IsErrOf answer Read → ⊥) → Held)

@@ -7,11 +7,15 @@ use Rattle.command_answers.specs.Answers.{Answers, HasLeft}
 use Rattle.command_answers.specs.declared.failure.Failure.{Failure}
 use Rattle.command_answers.specs.declared.failure.Failure.TheVariants.{Read, Bad, NoMemory}
 use Rattle.command_answers.specs.declared.status.Status.{Status}
-use Rattle.command_answers.specs.declared.status.Status.TheVariants.{Ok as Done, BadInput, ReadFault, WriteFault, OutOfMemory}
+use Rattle.command_answers.specs.declared.status.Status.TheVariants.{Ok as Done, Usage, BadInput, ReadFault, WriteFault, OutOfMemory}
 
 -- the line of a keeper that failed
 abbrev pub keeper_line : List ℕ
 keeper_line = codes "fault: keeper\n"
+
+-- the line of words that spell no command
+abbrev pub usage_line : List ℕ
+usage_line = codes "fault: usage\n"
 
 -- The whole text of the status is written; or the sink failed, and a prefix of the text of some status is.
 abbrev pub Writes : (Status → List ℕ → Type 0) → Status → List ℕ → Type 0
@@ -41,6 +45,11 @@ IsTextOf answers left other text = ⊥
 abbrev pub IsWantText : Status → List ℕ → Type 0
 IsWantText OutOfMemory text = text ≡ memory_line
 IsWantText other text = ⊥
+
+-- the whole text that goes with each status if the words spell no command
+abbrev pub IsUsageText : Status → List ℕ → Type 0
+IsUsageText Usage text = text ≡ usage_line
+IsUsageText other text = ⊥
 
 -- the status of a command's answer, and the text that goes with it
 abbrev pub status_of : Result (List ℕ) Failure → Status

@@ -11,4 +11,6 @@ mod telling;
 
 pub use failure::Failure;
 pub use status::Status;
-pub use telling::{finish, tell_failure, tell_keeper_fault, tell_no_memory, write_answer};
+pub use telling::{
+    finish, tell_failure, tell_keeper_fault, tell_no_memory, tell_usage, write_answer,
+};

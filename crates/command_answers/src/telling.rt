@@ -2,7 +2,7 @@
 ghost use Rattle.std.specs.Prelude.{Err};
 ghost use Rattle.office_base.specs.FaultLines.{memory_line};
 ghost use Rattle.office_base.specs.Visible.{sink_of};
-ghost use Rattle.command_answers.specs.Writes.{Told, keeper_line, status_of, text_of};
+ghost use Rattle.command_answers.specs.Writes.{Told, keeper_line, status_of, text_of, usage_line};
 
 use crate::failure::Failure;
 use crate::status::Status;
@@ -22,6 +22,14 @@ pub fn tell_keeper_fault<K: Sink>(sink: &mut K) -> Status
         (sink_of K.Sink sink.old) (sink_of K.Sink sink.new) result }
 {
     write_answer(sink, b"fault: keeper\n", Status::KeeperFault)
+}
+
+/// Writes the line that reports that the words spell no command.
+pub fn tell_usage<K: Sink>(sink: &mut K) -> Status
+    ensures { Told Status.Usage usage_line
+        (sink_of K.Sink sink.old) (sink_of K.Sink sink.new) result }
+{
+    write_answer(sink, b"fault: usage\n", Status::Usage)
 }
 
 /// Writes the answer of a command, or why there is none, and returns its status.

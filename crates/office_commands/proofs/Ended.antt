@@ -10,7 +10,7 @@ use Rattle.command_answers.specs.declared.failure.Failure.{Failure}
 use Rattle.command_answers.specs.declared.failure.Failure.TheVariants.{Read, Bad, NoMemory}
 use Rattle.command_answers.specs.declared.status.Status.{Status}
 use Rattle.command_answers.specs.declared.status.Status.TheVariants.{ReadFault, WriteFault, KeeperFault, DoorFault}
-use Rattle.command_answers.proofs.Ended.{answer_is_written, source_held}
+use Rattle.command_answers.proofs.Ended.{answer_is_written, no_door, no_keeper, no_write, read_alone, source_held}
 use Rattle.office_commands.proofs.Blaming.{blames}
 use Rattle.office_commands.specs.Program.{EndsText}
 
@@ -20,32 +20,6 @@ pub text_is_written : (answers : Answers) (left : Option (List ℕ)) (failed : T
     → (output : List ℕ) × Appends output before after × EndsText answers left tables tables result output
 text_is_written answers left failed answer result before after broke tables made cause told =
     let (output, appends, writes) = answer_is_written answers left failed answer result before after broke made cause told in (output, appends, (writes, refl))
-
--- the status of an answer is no fault of the sink or the keeper, and a read fault only if the source failed
-read_alone : (answers : Answers) (left : Option (List ℕ)) (failed : Type 0) (answer : Result (List ℕ) Failure) → IfErr answer (IsFailureOf answers left failed) → ReadFault ≡ status_of answer → failed
-read_alone answers left failed (Ok output) cause same = absurd (cc same)
-read_alone answers left failed (Err Read) cause same = cause
-read_alone answers left failed (Err (Bad line)) cause same = absurd (cc same)
-read_alone answers left failed (Err NoMemory) cause same = absurd (cc same)
-
-no_write : (answer : Result (List ℕ) Failure) → WriteFault ≡ status_of answer → ⊥
-no_write (Ok output) same = cc same
-no_write (Err Read) same = cc same
-no_write (Err (Bad line)) same = cc same
-no_write (Err NoMemory) same = cc same
-
-no_keeper : (answer : Result (List ℕ) Failure) → KeeperFault ≡ status_of answer → ⊥
-no_keeper (Ok output) same = cc same
-no_keeper (Err Read) same = cc same
-no_keeper (Err (Bad line)) same = cc same
-no_keeper (Err NoMemory) same = cc same
-
--- a fault of a door is none of an answer's statuses
-no_door : (answer : Result (List ℕ) Failure) → DoorFault ≡ status_of answer → ⊥
-no_door (Ok output) same = cc same
-no_door (Err Read) same = cc same
-no_door (Err (Bad line)) same = cc same
-no_door (Err NoMemory) same = cc same
 
 -- What was written of an answer blames the source and the sink if they failed, and no keeper and no door.
 pub answer_blames : (serves : Type 0) (answers : Answers) (left : Option (List ℕ)) (source source_now sink sink_now keeper : ℕ) (doors : List ℕ) (answer : Result (List ℕ) Failure) (result : Status) (before after : Option (List ℕ))

@@ -1,5 +1,5 @@
 -- What the program writes and how it ends.
-use Rattle.std.specs.Prelude.{◌≡◌, ◌⊎◌, ℕ, true, false, List, Option, codes}
+use Rattle.std.specs.Prelude.{◌≡◌, ◌⊎◌, ℕ, true, false, List, Option}
 use Rattle.kept_rows.specs.Tables.{Tables}
 use Rattle.audit_command.specs.Audit.{AreDossier, AreFaultyDossier, EndsWell, IsAuditText}
 use Rattle.audit_command.specs.Best.{IsBestText}
@@ -14,21 +14,13 @@ use Rattle.office_commands.specs.Doors.{Doors}
 use Rattle.office_commands.specs.Serve.{EndsServe, EndsServeKept}
 use Rattle.step_command.specs.Step.{IsFaultySheet, IsSheet, step_answers}
 use Rattle.command_words.specs.Words.{Spell, SpellNothing}
-use Rattle.command_answers.specs.Writes.{IsTextOf, IsWantText, Writes}
+use Rattle.command_answers.specs.Writes.{IsTextOf, IsUsageText, IsWantText, Writes}
 use Rattle.command_answers.specs.declared.status.Status.{Status}
-use Rattle.command_answers.specs.declared.status.Status.TheVariants.{Ok as Done, Usage}
+use Rattle.command_answers.specs.declared.status.Status.TheVariants.{Ok as Done}
 use Rattle.command_words.specs.declared.words.Command.{Command}
 use Rattle.command_words.specs.declared.words.Command.TheVariants.{Step, Check, Run, Resume, Units, Special, Serve, Audit, AuditBest, Generate}
 use Rattle.command_words.specs.declared.words.OutKind.TheVariants as out_kind
 use Rattle.command_words.specs.declared.words.Start.TheVariants as start
-
-abbrev pub usage_line : List ℕ
-usage_line = codes "fault: usage\n"
-
--- the whole text that goes with each status if the words spell no command
-abbrev pub IsUsageText : Status → List ℕ → Type 0
-IsUsageText Usage text = text ≡ usage_line
-IsUsageText other text = ⊥
 
 -- what a command that answers with one text writes, with its status; the tables are unchanged
 abbrev pub EndsText : Answers → Option (List ℕ) → Tables → Tables → Status → List ℕ → Type 0

@@ -10,7 +10,7 @@ use Rattle.season_facts.specs.Season.{facts_of}
 use Rattle.one_output.specs.Laws.{GiveOneSeason, OneOutput, OneTally}
 use Rattle.command_answers.specs.Answers.{Answers, HaveOneAnswer}
 use Rattle.command_answers.specs.Status.{IsAnswered}
-use Rattle.command_answers.specs.Writes.{Writes}
+use Rattle.command_answers.specs.Writes.{IsUsageText, Writes, usage_line}
 use Rattle.command_answers.specs.declared.status.Status.{Status}
 use Rattle.command_answers.specs.declared.status.Status.TheVariants.{Ok as Done, Usage}
 use Rattle.command_answers.proofs.Answered.{by_answer}
@@ -37,7 +37,7 @@ use Rattle.command_words.specs.declared.words.Command.TheVariants.{Step, Check, 
 use Rattle.command_words.specs.declared.words.OutKind.TheVariants as out_kind
 use Rattle.office_commands.specs.Doors.{Doors}
 use Rattle.office_commands.specs.Call.{Call}
-use Rattle.office_commands.specs.Program.{Ends, EndsAudit, EndsAuditBest, EndsGenerated, EndsText, IsUsageText, IsWritten, Serves, SpellServing, usage_line}
+use Rattle.office_commands.specs.Program.{Ends, EndsAudit, EndsAuditBest, EndsGenerated, EndsText, IsWritten, Serves, SpellServing}
 
 -- what holds of single commands and their inputs
 pub record Laws : Type 0 where

@@ -3,10 +3,9 @@ use Rattle.command_words.specs.Words.{Spell}
 use Rattle.command_words.specs.declared.words.Command.{Command}
 use Rattle.command_words.specs.declared.words.WordsFault.TheVariants as words_fault
 use Rattle.office_commands.specs.Keeping.{Answers, Spares}
-use Rattle.office_commands.specs.Program.{IsUsageText, usage_line}
 use Rattle.office_commands.proofs.Blaming.{blames_as}
 use Rattle.office_base.specs.FaultLines.{memory_line}
-use Rattle.command_answers.specs.Writes.{IsWantText}
+use Rattle.command_answers.specs.Writes.{IsUsageText, IsWantText, usage_line}
 use Rattle.command_answers.specs.declared.status.Status.TheVariants.{OutOfMemory, Usage}
 use Rattle.command_answers.specs.declared.status.Status.{Status}
 use Rattle.office_commands.specs.Call.{Call}
