@@ -1,7 +1,7 @@
 // Standard input and output as a source and a sink. To the office they are the trusted edge: it cannot see their bytes.
 // They raise a counter, which begins with 0, at each error.
 // Clauses of their own say what they do to a reader and a writer with visible bytes.
-ghost use Rattle.std.specs.Prelude.{◌≡◌, ◌<◌, ◌≤◌, ◌⊎◌, [], ℕ, List, Option, IfOk, IsErr, OnOk, OnErr, None, length, take, true};
+ghost use Rattle.std.specs.Prelude.{◌≡◌, ◌≢◌, ◌<◌, ◌≤◌, ◌⊎◌, [], ℕ, List, Option, IfOk, IsErr, OnOk, OnErr, None, length, take, true};
 ghost use Rattle.std.specs.Io.KnownBytes.{Appends, Keeps, ReadConsumes};
 ghost use Rattle.office_base.specs.FaultLines.{memory_line};
 ghost use Rattle.office_base.specs.Memory.{counted};
@@ -109,6 +109,21 @@ impl<W: Write + Drop> StandardOutput<W> {
             (writer, Ok(()))
         } else {
             (writer, Err(Failed))
+        }
+    }
+
+    /// Passes on what is held, and returns the writer with the exit status: the given one, or that of a failed write.
+    pub fn end(self, status: Status) -> (W, Status)
+        ensures status { (result.1 ≡ status) ⊎ (result.1 ≡ Status.WriteFault) }
+        // unless a write failed, all that was held follows what the writer had
+        ensures steady { result.1 ≢ Status.WriteFault → self.faults ≡ 0 }
+        ensures whole { result.1 ≢ Status.WriteFault
+            → Keeps (given_or_held W.contents self) (W.contents result.0) }
+    {
+        let (writer, given) = self.finish();
+        match given {
+            Ok(()) => (writer, status),
+            Err(Failed) => (writer, Status::WriteFault),
         }
     }
 
