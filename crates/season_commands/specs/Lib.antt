@@ -4,6 +4,7 @@ pub mod Laws
 pub mod Runs
 pub mod Steps
 pub mod Tally
+pub mod Anew
 pub mod Check
 pub mod Office
 pub mod Outside
