@@ -46,7 +46,7 @@ no_special left before after output (inl unresumed) = no_text (IsUnresumedText (
 no_special left before after output (inr (facts, state, is, writes, told)) = no_text (IsSpecialText facts state left) output (λ text h. h) writes
 
 -- A command that does not serve does not end with a fault of a door.
-no_door : (command : Command) (left : Option (List ℕ)) (before after : Tables) (doors : Doors) (output : List ℕ) → (Serves command → ⊥) → Ends command left before after doors DoorFault output → ⊥
+pub no_door : (command : Command) (left : Option (List ℕ)) (before after : Tables) (doors : Doors) (output : List ℕ) → (Serves command → ⊥) → Ends command left before after doors DoorFault output → ⊥
 no_door Step left before after doors output other ends = no_text (IsTextOf step_answers left) output (λ text h. h) ends.0
 no_door Check left before after doors output other ends = no_text (IsTextOf check_answers left) output (λ text h. h) ends.0
 no_door (Run store) left before after doors output other (inl unread) = no_text (IsTextOf (bundle_answers true) left) output (λ text h. h) unread.0

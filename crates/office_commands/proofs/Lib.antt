@@ -3,3 +3,5 @@ mod ServedEnds
 mod Blaming
 mod Coming
 mod Ended
+mod FirstLook
+mod Spelled

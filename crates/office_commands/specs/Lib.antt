@@ -1,5 +1,6 @@
 pub mod ServeBlames
 pub mod Doors
+pub mod FirstLook
 pub mod Ending
 pub mod Serve
 pub mod Blames
