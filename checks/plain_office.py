@@ -162,6 +162,19 @@ def cutoffs_of(found, merit):
     return [(it, last[it]) for it in sets if all(last[it] > last[other] for other in sets if set(other) < set(it)) and last[it]]
 
 
+def list_text(number, code, lists):
+    """The text of a programme's lists in a round."""
+    steps = (step_lines(f"{it.step} ", it.seats, it.candidates, [person.id for person in it.admitted], it.letters) for it in lists)
+    return f"list {number} {code}\n{''.join(steps)}end list\n"
+
+
+def cutoffs_text(number, code, lists, merit):
+    """The text of a programme's cutoffs in a round."""
+    lines = ((found.step, *line) for found in lists for line in cutoffs_of(found, merit))
+    told = "".join(f"{step} {traits or '-'} {'any' if last == math.inf else last}\n" for step, traits, last in lines)
+    return f"cutoffs {number} {code}\n{told}end cutoffs\n"
+
+
 class Round:
     """The round on what everybody seeks: the seat of each candidate, and the lists of each programme."""
 
@@ -384,18 +397,12 @@ class Office:
     def reply_to_cutoffs(self, _, number, code):
         if self.refused_shown(number, code):
             return self.refused_shown(number, code)
-        merit = self.season.merit(code)
-        lines = ((found.step, *line) for found in self.rounds[number - 1].lists[code] for line in cutoffs_of(found, merit))
-        told = "".join(f"{step} {traits or '-'} {'any' if last == math.inf else last}\n" for step, traits, last in lines)
-        return f"cutoffs {number} {code}\n{told}end cutoffs\n"
+        return cutoffs_text(number, code, self.rounds[number - 1].lists[code], self.season.merit(code))
 
     def reply_to_list(self, _, number, code):
         if self.refused_shown(number, code):
             return self.refused_shown(number, code)
-        text = f"list {number} {code}\n"
-        for it in self.rounds[number - 1].lists[code]:
-            text += step_lines(f"{it.step} ", it.seats, it.candidates, [person.id for person in it.admitted], it.letters)
-        return text + "end list\n"
+        return list_text(number, code, self.rounds[number - 1].lists[code])
 
     def reply_to_round(self, _, number):
         return self.published_text(number) if 1 <= number <= self.cuts else f"refused 14 NoSuchRound published {len(self.rounds)}\n"

@@ -5,7 +5,7 @@ each row of the de-reserved step takes one of OBC while one is left there, and e
 import copy
 import csv
 
-from plain_office import STEPS, TRAITS, Office, Round, Season, certificate
+from plain_office import STEPS, TRAITS, Office, Round, Season, certificate, cutoffs_text, list_text
 
 MOST_ROW_CHOICES = 1000
 LAST_ID = 999_999_999
@@ -104,8 +104,13 @@ def read_lists(office, lists):
 # ---- the round
 
 
-def special_text(office, lists):
-    """What the command on an office's records writes for these lists, and whether that is a fault."""
+def listed(season, made):
+    """The list and the cutoffs of each programme in a special round, as the office's replies spell them."""
+    return "".join(list_text(1, code, found) + cutoffs_text(1, code, found, season.merit(code)) for code, found in made.lists.items())
+
+
+def special_text(office, lists, with_lists=False):
+    """What the command on an office's records writes for these lists, alone or with the list and the cutoffs of each programme, and whether that is a fault."""
     if office.cuts <= office.season.rounds:
         return f"fault: special NotFinal now {office.cuts}\n", True
     choices, fault = read_lists(office, lists)
@@ -116,7 +121,8 @@ def special_text(office, lists):
     made = Round(season, season.seats, {it.id: choices.get(it.id, []) for it in season.people})
     rows = "".join(f"allot {cand} {code} {step}\n" for cand, (code, step) in sorted(made.seats.items()))
     seated = len(made.seats)
-    return f"special seats {vacant} seated {seated}\nround 1 seated {seated}\n{rows}end round\n", False
+    papers = listed(season, made) if with_lists else ""
+    return f"special seats {vacant} seated {seated}\nround 1 seated {seated}\n{rows}end round\n{papers}", False
 
 
 def wrongs_of(office, lists):

@@ -400,10 +400,10 @@ def drawn_specials(count):
         text = drawn_season(draw, in_order)
         office = office_after(text)
         lists = drawn_lists(draw, in_order, office)
-        told, is_fault = special_text(office, lists)
+        (told, is_fault), (papers, _) = special_text(office, lists), special_text(office, lists, with_lists=True)
         both += any(step == "D" for *_, step in office.admitted()) and "allot" in told
         wrong = wrongs_of(office, lists)
-        found.append((f"special round {number}", text, lists, told, 3 if is_fault else 0, wrong))
+        found.append((f"special round {number}", text, lists, (told, papers), 3 if is_fault else 0, wrong))
     return found, both
 
 
@@ -413,8 +413,11 @@ def fault_of_special(program, label, text, lists, told, status, wrong):
         return f"{label}: the plain office: {wrong[0]}"
     with tempfile.TemporaryDirectory(prefix="special-", dir=ROOMS) as room:
         called(program, ["run", "season.db"], text.encode(), room)
-        found = called(program, ["special", "season.db"], lists.encode(), room)
-        return None if found == (told.encode(), status) else f"{label}: ended with status {found[1]}: {first_difference(found[0], told.encode())}"
+        for words, text in zip((["special", "season.db"], ["special", "lists", "season.db"]), told):
+            found = called(program, words, lists.encode(), room)
+            if found != (text.encode(), status):
+                return f"{label}: {' '.join(words)}: ended with status {found[1]}: {first_difference(found[0], text.encode())}"
+        return None
 
 
 def trials(program, texts, drawn):
@@ -475,7 +478,7 @@ def plainly(call, kept):
     if call.words in (["audit"], ["audit", "best"]):
         return verdict(b"".join(call.source), "best" in call.words)[0].decode()
     if call.words[:1] == ["special"] and kept and len(given) <= MOST_INPUT:
-        return special_text(office_after(kept), given)[0]
+        return special_text(office_after(kept), given, with_lists=call.words[1:2] == ["lists"])[0]
     return None
 
 

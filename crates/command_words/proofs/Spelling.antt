@@ -10,7 +10,7 @@ use Rattle.command_words.specs.Parts.{ArePlain, AreParts, NamePlain, is_plain}
 use Rattle.command_words.specs.Words.{IsInRange, IsNamed, Spell, SpellNothing, word_of, word_out, word_start, words_of}
 use Rattle.command_words.specs.declared.parts.Parts.{Parts}
 use Rattle.command_words.specs.declared.words.Command.{Command}
-use Rattle.command_words.specs.declared.words.Command.TheVariants.{Step, Check, Run, Resume, Units, Special, Serve, Audit, AuditBest, Generate}
+use Rattle.command_words.specs.declared.words.Command.TheVariants.{Step, Check, Run, Resume, Units, Special, SpecialLists, Serve, Audit, AuditBest, Generate}
 use Rattle.command_words.specs.declared.words.OutKind.{OutKind}
 use Rattle.command_words.specs.declared.words.OutKind.TheVariants as out_kind
 use Rattle.command_words.specs.declared.words.Start.{Start}
@@ -88,6 +88,7 @@ one_command own Step (Run other) first second same = absurd cc
 one_command own Step (Resume other) first second same = absurd cc
 one_command own Step (Units other) first second same = absurd cc
 one_command own Step (Special other) first second same = absurd cc
+one_command own Step (SpecialLists other) first second same = absurd cc
 one_command own Step (Serve many crew begin place other) first second same = absurd cc
 one_command own Step Audit first second same = absurd cc
 one_command own Step AuditBest first second same = absurd cc
@@ -98,6 +99,7 @@ one_command own Check (Run other) first second same = absurd cc
 one_command own Check (Resume other) first second same = absurd cc
 one_command own Check (Units other) first second same = absurd cc
 one_command own Check (Special other) first second same = absurd cc
+one_command own Check (SpecialLists other) first second same = absurd cc
 one_command own Check (Serve many crew begin place other) first second same = absurd cc
 one_command own Check Audit first second same = let bytes : 99 ≡ 97 = ap first_byte same in absurd (omega (arith, bytes))
 one_command own Check AuditBest first second same = absurd cc
@@ -109,6 +111,7 @@ one_command own (Run store) (Run other) first second same =
 one_command own (Run store) (Resume other) first second same = absurd cc
 one_command own (Run store) (Units other) first second same = absurd cc
 one_command own (Run store) (Special other) first second same = absurd cc
+one_command own (Run store) (SpecialLists other) first second same = absurd cc
 one_command own (Run store) (Serve many crew begin place other) first second same = absurd cc
 one_command own (Run store) Audit first second same = absurd cc
 one_command own (Run store) AuditBest first second same = let bytes : 114 ≡ 97 = ap first_byte same in absurd (omega (arith, bytes))
@@ -120,6 +123,7 @@ one_command own (Resume store) (Resume other) first second same =
     let words : word_of store ≡ word_of other = cc in ap Resume (one_store store other first second words)
 one_command own (Resume store) (Units other) first second same = absurd cc
 one_command own (Resume store) (Special other) first second same = absurd cc
+one_command own (Resume store) (SpecialLists other) first second same = absurd cc
 one_command own (Resume store) (Serve many crew begin place other) first second same = absurd cc
 one_command own (Resume store) Audit first second same = absurd cc
 one_command own (Resume store) AuditBest first second same = let bytes : 114 ≡ 97 = ap first_byte same in absurd (omega (arith, bytes))
@@ -131,6 +135,7 @@ one_command own (Units store) (Resume other) first second same = absurd cc
 one_command own (Units store) (Units other) first second same =
     let words : word_of store ≡ word_of other = cc in ap Units (one_store store other first second words)
 one_command own (Units store) (Special other) first second same = absurd cc
+one_command own (Units store) (SpecialLists other) first second same = absurd cc
 one_command own (Units store) (Serve many crew begin place other) first second same = absurd cc
 one_command own (Units store) Audit first second same = absurd cc
 one_command own (Units store) AuditBest first second same = let bytes : 117 ≡ 97 = ap first_byte same in absurd (omega (arith, bytes))
@@ -142,16 +147,30 @@ one_command own (Special store) (Resume other) first second same = absurd cc
 one_command own (Special store) (Units other) first second same = absurd cc
 one_command own (Special store) (Special other) first second same =
     let words : word_of store ≡ word_of other = cc in ap Special (one_store store other first second words)
+one_command own (Special store) (SpecialLists other) first second same = absurd cc
 one_command own (Special store) (Serve many crew begin place other) first second same = absurd cc
 one_command own (Special store) Audit first second same = absurd cc
 one_command own (Special store) AuditBest first second same = let bytes : 115 ≡ 97 = ap first_byte same in absurd (omega (arith, bytes))
 one_command own (Special store) (Generate m from last) first second same = absurd cc
+one_command own (SpecialLists store) Step first second same = absurd cc
+one_command own (SpecialLists store) Check first second same = absurd cc
+one_command own (SpecialLists store) (Run other) first second same = absurd cc
+one_command own (SpecialLists store) (Resume other) first second same = absurd cc
+one_command own (SpecialLists store) (Units other) first second same = absurd cc
+one_command own (SpecialLists store) (Special other) first second same = absurd cc
+one_command own (SpecialLists store) (SpecialLists other) first second same =
+    let words : word_of store ≡ word_of other = cc in ap SpecialLists (one_store store other first second words)
+one_command own (SpecialLists store) (Serve many crew begin place other) first second same = absurd cc
+one_command own (SpecialLists store) Audit first second same = absurd cc
+one_command own (SpecialLists store) AuditBest first second same = absurd cc
+one_command own (SpecialLists store) (Generate m from last) first second same = absurd cc
 one_command own (Serve conns workers start port store) Step first second same = absurd cc
 one_command own (Serve conns workers start port store) Check first second same = absurd cc
 one_command own (Serve conns workers start port store) (Run other) first second same = absurd cc
 one_command own (Serve conns workers start port store) (Resume other) first second same = absurd cc
 one_command own (Serve conns workers start port store) (Units other) first second same = absurd cc
 one_command own (Serve conns workers start port store) (Special other) first second same = absurd cc
+one_command own (Serve conns workers start port store) (SpecialLists other) first second same = absurd cc
 one_command own (Serve conns workers start port store) (Serve many crew begin place other) first second same =
     let conns_same : decimal conns ≡ decimal many = cc in
     let workers_same : decimal workers ≡ decimal crew = cc in
@@ -173,6 +192,7 @@ one_command own Audit (Run other) first second same = absurd cc
 one_command own Audit (Resume other) first second same = absurd cc
 one_command own Audit (Units other) first second same = absurd cc
 one_command own Audit (Special other) first second same = absurd cc
+one_command own Audit (SpecialLists other) first second same = absurd cc
 one_command own Audit (Serve many crew begin place other) first second same = absurd cc
 one_command own Audit Audit first second same = refl
 one_command own Audit AuditBest first second same = absurd cc
@@ -183,6 +203,7 @@ one_command own AuditBest (Run other) first second same = let bytes : 97 ≡ 114
 one_command own AuditBest (Resume other) first second same = let bytes : 97 ≡ 114 = ap first_byte same in absurd (omega (arith, bytes))
 one_command own AuditBest (Units other) first second same = let bytes : 97 ≡ 117 = ap first_byte same in absurd (omega (arith, bytes))
 one_command own AuditBest (Special other) first second same = let bytes : 97 ≡ 115 = ap first_byte same in absurd (omega (arith, bytes))
+one_command own AuditBest (SpecialLists other) first second same = absurd cc
 one_command own AuditBest (Serve many crew begin place other) first second same = absurd cc
 one_command own AuditBest Audit first second same = absurd cc
 one_command own AuditBest AuditBest first second same = refl
@@ -193,6 +214,7 @@ one_command own (Generate n seed out) (Run other) first second same = absurd cc
 one_command own (Generate n seed out) (Resume other) first second same = absurd cc
 one_command own (Generate n seed out) (Units other) first second same = absurd cc
 one_command own (Generate n seed out) (Special other) first second same = absurd cc
+one_command own (Generate n seed out) (SpecialLists other) first second same = absurd cc
 one_command own (Generate n seed out) (Serve many crew begin place other) first second same = absurd cc
 one_command own (Generate n seed out) Audit first second same = absurd cc
 one_command own (Generate n seed out) AuditBest first second same = absurd cc
@@ -222,6 +244,7 @@ plain_command own (Run store) range = rw (plain_store store range) refl
 plain_command own (Resume store) range = rw (plain_store store range) refl
 plain_command own (Units store) range = rw (plain_store store range) refl
 plain_command own (Special store) range = rw (plain_store store range) refl
+plain_command own (SpecialLists store) range = rw (plain_store store range) refl
 plain_command own (Serve conns workers New port store) range =
     rw (plain_digits own conns (omega (arith, range.0.1)), plain_digits own workers (omega (arith, range.1.1)), plain_digits own port (omega (arith, range.2.1)), plain_store store range.3) refl
 plain_command own (Serve conns workers Kept port store) range =
@@ -233,18 +256,19 @@ plain_command own (Generate n seed out_kind.Text) range =
 plain_command own (Generate n seed out_kind.Run) range =
     rw (plain_digits own n (omega (arith, range.1)), plain_digits own seed range.2) refl
 
--- a command has one word, two, four or six
-some_words : (command : Command) → (0 < length (words_of command)) × (length (words_of command) ≤ 6) × (length (words_of command) ≡ 3 → ⊥) × (length (words_of command) ≡ 5 → ⊥)
-some_words Step = (omega arith, omega arith, λ h. omega (arith, h), λ h. omega (arith, h))
-some_words Check = (omega arith, omega arith, λ h. omega (arith, h), λ h. omega (arith, h))
-some_words (Run store) = (omega arith, omega arith, λ h. omega (arith, h), λ h. omega (arith, h))
-some_words (Resume store) = (omega arith, omega arith, λ h. omega (arith, h), λ h. omega (arith, h))
-some_words (Units store) = (omega arith, omega arith, λ h. omega (arith, h), λ h. omega (arith, h))
-some_words (Special store) = (omega arith, omega arith, λ h. omega (arith, h), λ h. omega (arith, h))
-some_words (Serve conns workers start port store) = (omega arith, omega arith, λ h. omega (arith, h), λ h. omega (arith, h))
-some_words Audit = (omega arith, omega arith, λ h. omega (arith, h), λ h. omega (arith, h))
-some_words AuditBest = (omega arith, omega arith, λ h. omega (arith, h), λ h. omega (arith, h))
-some_words (Generate n seed out) = (omega arith, omega arith, λ h. omega (arith, h), λ h. omega (arith, h))
+-- a command has one word to four, or six
+some_words : (command : Command) → (0 < length (words_of command)) × (length (words_of command) ≤ 6) × (length (words_of command) ≡ 5 → ⊥)
+some_words Step = (omega arith, omega arith, λ h. omega (arith, h))
+some_words Check = (omega arith, omega arith, λ h. omega (arith, h))
+some_words (Run store) = (omega arith, omega arith, λ h. omega (arith, h))
+some_words (Resume store) = (omega arith, omega arith, λ h. omega (arith, h))
+some_words (Units store) = (omega arith, omega arith, λ h. omega (arith, h))
+some_words (Special store) = (omega arith, omega arith, λ h. omega (arith, h))
+some_words (SpecialLists store) = (omega arith, omega arith, λ h. omega (arith, h))
+some_words (Serve conns workers start port store) = (omega arith, omega arith, λ h. omega (arith, h))
+some_words Audit = (omega arith, omega arith, λ h. omega (arith, h))
+some_words AuditBest = (omega arith, omega arith, λ h. omega (arith, h))
+some_words (Generate n seed out) = (omega arith, omega arith, λ h. omega (arith, h))
 
 -- Words that are not all plain spell no command.
 pub flags_spell_nothing : AreInverse → (words : List (List ℕ)) → (ArePlain words → ⊥) → SpellNothing words
@@ -280,6 +304,18 @@ two_words (w ∷ x ∷ []) parts s0 s1 are h0 h1 none =
     let t1 : Some s1.now ≡ Some x = sym (ap now_of h1) ∙ are.first in
     let e0 : s0.now ≡ w = cc in let e1 : s1.now ≡ x = cc in cc
 two_words (w ∷ x ∷ y ∷ rest) parts s0 s1 are h0 h1 none = let bad : None ≡ Some y = sym (ap now_of none) ∙ are.second in absurd cc
+
+-- the three words that there are
+three_words : (words : List (List ℕ)) (parts : Parts) (s0 s1 s2 : Bor (List ℕ)) → AreParts words parts → parts.command ≡ Some s0 → parts.first ≡ Some s1 → parts.second ≡ Some s2 → parts.third ≡ None → words ≡ s0.now ∷ s1.now ∷ s2.now ∷ []
+three_words [] parts s0 s1 s2 are h0 h1 h2 none = let bad : Some s0.now ≡ None = sym (ap now_of h0) ∙ are.command in absurd cc
+three_words (w ∷ []) parts s0 s1 s2 are h0 h1 h2 none = let bad : Some s1.now ≡ None = sym (ap now_of h1) ∙ are.first in absurd cc
+three_words (w ∷ x ∷ []) parts s0 s1 s2 are h0 h1 h2 none = let bad : Some s2.now ≡ None = sym (ap now_of h2) ∙ are.second in absurd cc
+three_words (w ∷ x ∷ y ∷ []) parts s0 s1 s2 are h0 h1 h2 none =
+    let t0 : Some s0.now ≡ Some w = sym (ap now_of h0) ∙ are.command in
+    let t1 : Some s1.now ≡ Some x = sym (ap now_of h1) ∙ are.first in
+    let t2 : Some s2.now ≡ Some y = sym (ap now_of h2) ∙ are.second in
+    let e0 : s0.now ≡ w = cc in let e1 : s1.now ≡ x = cc in let e2 : s2.now ≡ y = cc in cc
+three_words (w ∷ x ∷ y ∷ z ∷ rest) parts s0 s1 s2 are h0 h1 h2 none = let bad : None ≡ Some z = sym (ap now_of none) ∙ are.third in absurd cc
 
 -- the four words that there are
 four_words : (words : List (List ℕ)) (parts : Parts) (s0 s1 s2 s3 : Bor (List ℕ)) → AreParts words parts → parts.command ≡ Some s0 → parts.first ≡ Some s1 → parts.second ≡ Some s2 → parts.third ≡ Some s3 → parts.fourth ≡ None → words ≡ s0.now ∷ s1.now ∷ s2.now ∷ s3.now ∷ []
@@ -336,6 +372,11 @@ pub read_two : (parts : Parts) (s0 s1 : Bor (List ℕ)) (told : Result Command W
     → IfOk told (Spell (s0.now ∷ s1.now ∷ [])) → (IsErrOf told Usage → SpellNothing (s0.now ∷ s1.now ∷ [])) → AreRead parts told
 read_two parts s0 s1 told h0 h1 none = read parts (s0.now ∷ s1.now ∷ []) told (λ words are. two_words words parts s0 s1 are h0 h1 none)
 
+-- Three words.
+pub read_three : (parts : Parts) (s0 s1 s2 : Bor (List ℕ)) (told : Result Command WordsFault) → parts.command ≡ Some s0 → parts.first ≡ Some s1 → parts.second ≡ Some s2 → parts.third ≡ None
+    → IfOk told (Spell (s0.now ∷ s1.now ∷ s2.now ∷ [])) → (IsErrOf told Usage → SpellNothing (s0.now ∷ s1.now ∷ s2.now ∷ [])) → AreRead parts told
+read_three parts s0 s1 s2 told h0 h1 h2 none = read parts (s0.now ∷ s1.now ∷ s2.now ∷ []) told (λ words are. three_words words parts s0 s1 s2 are h0 h1 h2 none)
+
 -- Four words.
 pub read_four : (parts : Parts) (s0 s1 s2 s3 : Bor (List ℕ)) (told : Result Command WordsFault) → parts.command ≡ Some s0 → parts.first ≡ Some s1 → parts.second ≡ Some s2 → parts.third ≡ Some s3 → parts.fourth ≡ None
     → IfOk told (Spell (s0.now ∷ s1.now ∷ s2.now ∷ s3.now ∷ [])) → (IsErrOf told Usage → SpellNothing (s0.now ∷ s1.now ∷ s2.now ∷ s3.now ∷ [])) → AreRead parts told
@@ -348,7 +389,7 @@ read_six parts s0 s1 s2 s3 s4 s5 told h0 h1 h2 h3 h4 h5 = read parts (s0.now ∷
 
 -- Those of plain words that may name a file are plain.
 pub named_plain : (words : List (List ℕ)) (parts : Parts) → ArePlain words → AreParts words parts → NamePlain parts
-named_plain words parts plain are = record { first = there words 1 parts.first plain are.first; fifth = there words 5 parts.fifth plain are.fifth }
+named_plain words parts plain are = record { first = there words 1 parts.first plain are.first; second = there words 2 parts.second plain are.second; fifth = there words 5 parts.fifth plain are.fifth }
   where
     both : (a b : Bool) → (a && b) ≡ true → (a ≡ true) × (b ≡ true)
     both true true h = (refl, refl)

@@ -48,4 +48,5 @@ program = with_rule (with_rule (with_rule short_program (new_rule (codes "third"
 -- those of the words in their places that may name a file are plain
 pub record NamePlain (parts : Parts) : Type 0 where
   pub first : IfSome parts.first (λ word. is_plain word.now ≡ true)
+  pub second : IfSome parts.second (λ word. is_plain word.now ≡ true)
   pub fifth : IfSome parts.fifth (λ word. is_plain word.now ≡ true)

@@ -4,7 +4,7 @@ use Rattle.std.specs.Fmt.{decimal}
 use Rattle.office_base.specs.Limits.{most_connections, most_doors, most_generated}
 use Rattle.command_words.specs.Parts.{is_plain}
 use Rattle.command_words.specs.declared.words.Command.{Command}
-use Rattle.command_words.specs.declared.words.Command.TheVariants.{Step, Check, Run, Resume, Units, Special, Serve, Audit, AuditBest, Generate}
+use Rattle.command_words.specs.declared.words.Command.TheVariants.{Step, Check, Run, Resume, Units, Special, SpecialLists, Serve, Audit, AuditBest, Generate}
 use Rattle.command_words.specs.declared.words.OutKind.{OutKind}
 use Rattle.command_words.specs.declared.words.OutKind.TheVariants as out_kind
 use Rattle.command_words.specs.declared.words.Service.{Service}
@@ -41,6 +41,7 @@ store_of (Run store) = Some store
 store_of (Resume store) = Some store
 store_of (Units store) = Some store
 store_of (Special store) = Some store
+store_of (SpecialLists store) = Some store
 store_of (Serve conns workers start port store) = Some store
 store_of Audit = None
 store_of AuditBest = None
@@ -54,6 +55,7 @@ service_of (Run store) = None
 service_of (Resume store) = None
 service_of (Units store) = None
 service_of (Special store) = None
+service_of (SpecialLists store) = None
 service_of (Serve conns workers start port store) = Some (record { conns = conns; workers = workers; start = start; port = port })
 service_of Audit = None
 service_of AuditBest = None
@@ -72,6 +74,7 @@ words_of (Run store) = codes "run" ∷ word_of store ∷ []
 words_of (Resume store) = codes "resume" ∷ word_of store ∷ []
 words_of (Units store) = codes "units" ∷ word_of store ∷ []
 words_of (Special store) = codes "special" ∷ word_of store ∷ []
+words_of (SpecialLists store) = codes "special" ∷ codes "lists" ∷ word_of store ∷ []
 words_of (Serve conns workers start port store) = codes "serve" ∷ decimal conns ∷ decimal workers ∷ word_start start ∷ decimal port ∷ word_of store ∷ []
 words_of Audit = codes "audit" ∷ []
 words_of AuditBest = codes "audit" ∷ codes "best" ∷ []
@@ -85,6 +88,7 @@ IsInRange (Run store) = IsNamed store
 IsInRange (Resume store) = IsNamed store
 IsInRange (Units store) = IsNamed store
 IsInRange (Special store) = IsNamed store
+IsInRange (SpecialLists store) = IsNamed store
 IsInRange (Serve conns workers start port store) = ((1 ≤ conns) × (conns ≤ most_connections)) × ((1 ≤ workers) × (workers ≤ most_doors)) × ((1 ≤ port) × (port < 2 ^ 16)) × IsNamed store
 IsInRange Audit = Unit {0}
 IsInRange AuditBest = Unit {0}

@@ -39,6 +39,8 @@ pub enum Command {
     /// Resumes the office that a keeper holds, reads lists,
     /// and gives the seats that its final cut left vacant in a special round.
     Special(Store),
+    /// Does the same, and also gives the list and the cutoffs of each programme in that round.
+    SpecialLists(Store),
     /// Answers requests over HTTP at a port of this machine, with `workers` workers side by side, 1 to 64.
     /// Each worker takes at most `conns` connections, 1 to 100,000.
     /// `start` says how the office begins; the port is 1 to 65,535.
@@ -72,6 +74,7 @@ impl Command {
             | Command::Resume(store)
             | Command::Units(store)
             | Command::Special(store)
+            | Command::SpecialLists(store)
             | Command::Serve { store, .. } => Some(store),
             Command::Step
             | Command::Check
@@ -102,6 +105,7 @@ impl Command {
             | Command::Resume(_)
             | Command::Units(_)
             | Command::Special(_)
+            | Command::SpecialLists(_)
             | Command::Step
             | Command::Check
             | Command::Audit
@@ -198,6 +202,7 @@ impl<T: Drop> From<AllocFailed<T>> for WordsFault {
 /// - nothing, after `step`, `check` and `audit`;
 /// - `best`, after `audit`;
 /// - `memory` or the name of a file, after `run`, `resume`, `units` and `special`;
+/// - `lists`, and `memory` or the name of a file, after `special`;
 /// - how many connections, how many workers, `new` or `kept`, a port, and `memory` or the name of a file,
 ///   after `serve`;
 /// - how many candidates, a seed, and `text` or `run`, after `generate`.
@@ -274,7 +279,7 @@ fn command_of(alloc: Global, parts: Parts<'_>) -> Result<Command, WordsFault>
         return read_store(alloc, name, first);
     };
     let Some(third) = parts.third else {
-        return Err(WordsFault::Usage);
+        return read_lists(alloc, name, first, second);
     };
     let Some(fourth) = parts.fourth else {
         return read_season(name, first, second, third);
@@ -315,6 +320,19 @@ fn read_store(alloc: Global, name: &str, word: &str) -> Result<Command, WordsFau
         },
         _ => Err(WordsFault::Usage),
     }
+}
+
+/// Returns `special` with the word `lists` over the store of this word, which is not empty and does not begin with `-`.
+fn read_lists(alloc: Global, name: &str, word: &str, store: &str) -> Result<Command, WordsFault>
+    requires { is_plain store.now ≡ true }
+    ensures command { IfOk result (Spell (name.now ∷ word.now ∷ store.now ∷ [])) }
+    ensures none { IsErrOf result WordsFault.Usage
+        → SpellNothing (name.now ∷ word.now ∷ store.now ∷ []) }
+{
+    if name != "special" || word != "lists" {
+        return Err(WordsFault::Usage);
+    }
+    Ok(Command::SpecialLists(store_of(alloc, store)?))
 }
 
 /// Returns the store of a word that is not empty and does not begin with `-`.

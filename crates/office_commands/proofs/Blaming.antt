@@ -10,6 +10,8 @@ use Rattle.resume_command.specs.Resume.{EndsResume, IsUnresumedText, script_answ
 use Rattle.season_commands.specs.Run.{EndsSeason, IsUnbegunText}
 use Rattle.season_facts.specs.Season.{facts_of}
 use Rattle.special_command.specs.Special.{EndsSpecial, IsSpecialText}
+use Rattle.special_command.specs.declared.lists.SpecialPapers.{SpecialPapers}
+use Rattle.special_command.specs.declared.lists.SpecialPapers.TheVariants.{RoundAlone, WithLists}
 use Rattle.units_command.specs.Units.{units_answers}
 use Rattle.step_command.specs.Step.{step_answers}
 use Rattle.audit_command.specs.Audit.{IsAuditText}
@@ -21,7 +23,7 @@ use Rattle.command_answers.specs.Writes.{IsTextOf, IsWantText, Writes}
 use Rattle.command_answers.specs.declared.status.Status.{Status}
 use Rattle.command_answers.specs.declared.status.Status.TheVariants.{BadInput, ReadFault, WriteFault, KeeperFault, OutOfMemory, DoorFault, Differs}
 use Rattle.command_words.specs.declared.words.Command.{Command}
-use Rattle.command_words.specs.declared.words.Command.TheVariants.{Step, Check, Run, Resume, Units, Special, Serve, Audit, AuditBest, Generate}
+use Rattle.command_words.specs.declared.words.Command.TheVariants.{Step, Check, Run, Resume, Units, Special, SpecialLists, Serve, Audit, AuditBest, Generate}
 use Rattle.command_words.specs.declared.words.OutKind.TheVariants as out_kind
 use Rattle.office_commands.specs.Program.{Ends, Serves}
 
@@ -41,9 +43,9 @@ no_resume left before after output (inl unresumed) = no_text (IsUnresumedText (s
 no_resume left before after output (inr (facts, start, is, inl unasked)) = no_text (IsTextOf script_answers left) output (λ text h. h) unasked.0
 no_resume left before after output (inr (facts, start, is, inr (script, are, ends))) = ends
 
-no_special : (left : Option (List ℕ)) (before after : Tables) (output : List ℕ) → EndsSpecial left before after DoorFault output → ⊥
-no_special left before after output (inl unresumed) = no_text (IsUnresumedText (still before after)) output (λ text h. h) unresumed.0
-no_special left before after output (inr (facts, state, is, writes, told)) = no_text (IsSpecialText facts state left) output (λ text h. h) writes
+no_special : (papers : SpecialPapers) (left : Option (List ℕ)) (before after : Tables) (output : List ℕ) → EndsSpecial papers left before after DoorFault output → ⊥
+no_special papers left before after output (inl unresumed) = no_text (IsUnresumedText (still before after)) output (λ text h. h) unresumed.0
+no_special papers left before after output (inr (facts, state, is, writes, told)) = no_text (IsSpecialText papers facts state left) output (λ text h. h) writes
 
 -- A command that does not serve does not end with a fault of a door.
 pub no_door : (command : Command) (left : Option (List ℕ)) (before after : Tables) (doors : Doors) (output : List ℕ) → (Serves command → ⊥) → Ends command left before after doors DoorFault output → ⊥
@@ -54,7 +56,8 @@ no_door (Run store) left before after doors output other (inr (season, script, i
 no_door (Resume store) left before after doors output other ends = no_resume left before after output ends
 no_door (Units store) left before after doors output other (inl unread) = no_text (IsTextOf units_answers left) output (λ text h. h) unread.0
 no_door (Units store) left before after doors output other (inr (season, script, is, ends)) = no_season season script before after output ends
-no_door (Special store) left before after doors output other ends = no_special left before after output ends
+no_door (Special store) left before after doors output other ends = no_special RoundAlone left before after output ends
+no_door (SpecialLists store) left before after doors output other ends = no_special WithLists left before after output ends
 no_door (Serve conns workers start port store) left before after doors output other ends = other tt
 no_door Audit left before after doors output other ends = no_text (IsAuditText left) output (λ text h. h) ends.0
 no_door AuditBest left before after doors output other ends = no_text (IsBestText left) output (λ text h. h) ends.0

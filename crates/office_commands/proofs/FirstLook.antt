@@ -9,7 +9,7 @@ use Rattle.command_answers.specs.declared.status.Status.{Status}
 use Rattle.command_answers.specs.declared.status.Status.TheVariants.{BadInput, WriteFault, OutOfMemory, DoorFault}
 use Rattle.command_words.specs.Words.{Spell, SpellNothing}
 use Rattle.command_words.specs.declared.words.Command.{Command}
-use Rattle.command_words.specs.declared.words.Command.TheVariants.{Step, Check, Run, Resume, Special, Generate}
+use Rattle.command_words.specs.declared.words.Command.TheVariants.{Step, Check, Run, Resume, Generate}
 use Rattle.command_words.specs.declared.words.OutKind.TheVariants as out_kind
 use Rattle.command_words.specs.declared.words.Store.{Store}
 use Rattle.season_commands.specs.Anew.{CountsAnew, Generates, RunsAnew}
@@ -19,7 +19,7 @@ use Rattle.step_command.specs.Step.{step_answers}
 use Rattle.office_commands.specs.Blames.{Blames}
 use Rattle.office_commands.specs.FirstLook.{IsTheOffice, lone_call}
 use Rattle.office_commands.specs.Keeping.{EndsWith, Runs, RunsWords, WritesOf}
-use Rattle.office_commands.specs.Program.{BeginsOffice, Ends, ReadsSource, Resumes, Serves, SpellServing, Succeeds, TellsFault, TellsInput}
+use Rattle.office_commands.specs.Program.{BeginsOffice, Ends, MakesSpecial, ReadsSource, Resumes, Serves, SpellServing, Succeeds, TellsFault, TellsInput}
 use Rattle.office_commands.proofs.Blaming.{blames, no_door}
 use Rattle.office_commands.proofs.Spelled.{runs_words}
 
@@ -46,7 +46,7 @@ had_none NoSeason tells = tells
 had_none (Records kept) tells = tells
 
 -- A command without an office to resume and without doors does over the streams what the office does.
-runs_streams : (command : Command) (old new : Streams) (before after : Tables) (status : Status) → (Serves command → ⊥) → (Resumes command → ⊥) → ((store : Store) → command ≡ Resume store → ⊥) → ((store : Store) → command ≡ Special store → ⊥)
+runs_streams : (command : Command) (old new : Streams) (before after : Tables) (status : Status) → (Serves command → ⊥) → (Resumes command → ⊥) → ((store : Store) → command ≡ Resume store → ⊥) → (MakesSpecial command → ⊥)
     → WritesOf command (lone_call old new before after) status → BlamesStreams status old new
     → (ReadsSource command → Succeeds command status → IsAtEnd new.source.left) → (¬ ReadsSource command → IsUnread old.source new.source) → (¬ BeginsOffice command → after ≡ before)
     → (TellsInput command old.source.left → Held old new → Succeeds command status ⊎ (status ≡ OutOfMemory)) → (TellsFault command old.source.left → Held old new → EndsWith BadInput status)
@@ -70,8 +70,8 @@ runs_streams command old new before after status serves resumes resume special w
     kept_text = λ resumed. absurd (resumes resumed);
     differs = λ resumed. absurd (resumes resumed);
     unasked = λ store is. absurd (resume store is);
-    special_lists = λ store is. absurd (special store is);
-    special_refused = λ store is. absurd (special store is);
+    special_lists = λ makes. absurd (special makes);
+    special_refused = λ makes. absurd (special makes);
   };
   blamed = blames_streams command old new before after status serves (written.0, written.2) blamed;
 }
@@ -81,29 +81,29 @@ runs_streams command old new before after status serves resumes resume special w
 runs_step : (old new : Streams) (tables : Tables) (status : Status) → AnswersText step_answers old new status → Runs Step (lone_call old new tables tables) status
 runs_step old new tables status does =
     let (output, appends, writes) = does.written in
-    runs_streams Step old new tables tables status (λ serves. serves) (λ resumes. resumes) (λ store same. cc same) (λ store same. cc same) (output, appends, (writes, refl)) does.blamed
+    runs_streams Step old new tables tables status (λ serves. serves) (λ resumes. resumes) (λ store same. cc same) (λ makes. makes) (output, appends, (writes, refl)) does.blamed
     (λ reads well. does.read_whole well) (λ none. absurd (none tt)) (λ begins. refl) does.complete does.refused (λ begins. absurd begins)
 
 runs_check : (old new : Streams) (tables : Tables) (status : Status) → AnswersText check_answers old new status → Runs Check (lone_call old new tables tables) status
 runs_check old new tables status does =
     let (output, appends, writes) = does.written in
-    runs_streams Check old new tables tables status (λ serves. serves) (λ resumes. resumes) (λ store same. cc same) (λ store same. cc same) (output, appends, (writes, refl)) does.blamed
+    runs_streams Check old new tables tables status (λ serves. serves) (λ resumes. resumes) (λ store same. cc same) (λ makes. makes) (output, appends, (writes, refl)) does.blamed
     (λ reads well. does.read_whole well) (λ none. absurd (none tt)) (λ begins. refl) does.complete does.refused (λ begins. absurd begins)
 
 runs_run : (store : Store) (old new : Streams) (status : Status) (does : RunsAnew old new status) → Runs (Run store) (lone_call old new NoSeason does.written.0) status
 runs_run store old new status does =
-    runs_streams (Run store) old new NoSeason does.written.0 status (λ serves. serves) (λ resumes. resumes) (λ other same. cc same) (λ other same. cc same) does.written.2 does.blamed
+    runs_streams (Run store) old new NoSeason does.written.0 status (λ serves. serves) (λ resumes. resumes) (λ other same. cc same) (λ makes. makes) does.written.2 does.blamed
     (λ reads well. does.read_whole well) (λ none. absurd (none tt)) (λ begins. absurd (begins tt)) does.complete does.refused (λ begins tells. had_none does.written.0 tells)
 
 runs_generate : (n seed : ℕ) (old new : Streams) (tables : Tables) (status : Status) → Generates n seed old new status → Runs (Generate n seed out_kind.Text) (lone_call old new tables tables) status
 runs_generate n seed old new tables status does =
     let (output, appends, writes) = does.written in
-    runs_streams (Generate n seed out_kind.Text) old new tables tables status (λ serves. serves) (λ resumes. resumes) (λ store same. cc same) (λ store same. cc same)
+    runs_streams (Generate n seed out_kind.Text) old new tables tables status (λ serves. serves) (λ resumes. resumes) (λ store same. cc same) (λ makes. makes)
     (output, appends, (writes, refl)) does.blamed (λ reads. absurd reads) (λ none. does.unread) (λ begins. refl) (λ tells held. does.complete held) (λ tells. absurd tells) (λ begins. absurd begins)
 
 runs_count : (n seed : ℕ) (old new : Streams) (status : Status) (does : CountsAnew n seed old new status) → Runs (Generate n seed out_kind.Run) (lone_call old new NoSeason does.written.0) status
 runs_count n seed old new status does =
-    runs_streams (Generate n seed out_kind.Run) old new NoSeason does.written.0 status (λ serves. serves) (λ resumes. resumes) (λ store same. cc same) (λ store same. cc same)
+    runs_streams (Generate n seed out_kind.Run) old new NoSeason does.written.0 status (λ serves. serves) (λ resumes. resumes) (λ store same. cc same) (λ makes. makes)
     does.written.2 does.blamed (λ reads. absurd reads) (λ none. does.unread) (λ begins. absurd (begins tt)) (λ tells held. does.complete held) (λ tells. absurd tells) (λ begins tells. had_none does.written.0 tells)
 
 -- ---- by the words

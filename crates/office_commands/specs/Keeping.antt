@@ -6,7 +6,7 @@ use Rattle.command_answers.specs.Answers.{Tells}
 use Rattle.command_answers.specs.declared.status.Status.{Status}
 use Rattle.command_answers.specs.declared.status.Status.TheVariants.{Ok as Done, BadInput, OutOfMemory, Usage, Differs as DiffersStatus}
 use Rattle.command_words.specs.declared.words.Command.{Command}
-use Rattle.command_words.specs.declared.words.Command.TheVariants.{Resume, Special}
+use Rattle.command_words.specs.declared.words.Command.TheVariants.{Resume}
 use Rattle.command_words.specs.Words.{Spell, SpellNothing, service_of}
 use Rattle.command_words.specs.declared.words.Store.{Store}
 use Rattle.resume_command.specs.Resume.{IsFaultyScript, TellsNoOffice, TellsRowFault, TellsSound, TellsTextFault}
@@ -15,7 +15,7 @@ use Rattle.special_command.specs.Special.{AreFaultyKeptLists, AreKeptLists}
 use Rattle.office_commands.specs.Blames.{Blames}
 use Rattle.office_commands.specs.Call.{Call}
 use Rattle.office_commands.specs.Named.{connections_named, doors_named}
-use Rattle.office_commands.specs.Program.{BeginsOffice, Ends, IsReady, IsWritten, ReadsSource, Resumes, Serves, SpellServing, Succeeds, TellsFault, TellsInput}
+use Rattle.office_commands.specs.Program.{BeginsOffice, Ends, IsReady, IsWritten, MakesSpecial, ReadsSource, Resumes, Serves, SpellServing, Succeeds, TellsFault, TellsInput}
 
 -- the source is unchanged
 abbrev pub IsSpared : Call → Type 0
@@ -70,8 +70,8 @@ pub record Answers (command : Command) (call : Call) (status : Status) : Type 0 
   pub differs : Resumes command → TellsRowFault (held call) → ¬ WriteFailed call → ¬ KeepFailed call → EndsWith DiffersStatus status
   -- under `resume` and `special` what is read comes after sound records
   pub unasked : (store : Store) → command ≡ Resume store → Tells IsFaultyScript call.left → TellsSound (held call) → ¬ ReadFailed call → ¬ WriteFailed call → ¬ KeepFailed call → EndsWith BadInput status
-  pub special_lists : (store : Store) → command ≡ Special store → Tells (AreKeptLists (held call)) call.left → TellsSound (held call) → ¬ ReadFailed call → ¬ WriteFailed call → ¬ KeepFailed call → EndsWith Done status
-  pub special_refused : (store : Store) → command ≡ Special store → Tells (AreFaultyKeptLists (held call)) call.left → TellsSound (held call) → ¬ ReadFailed call → ¬ WriteFailed call → ¬ KeepFailed call → EndsWith BadInput status
+  pub special_lists : MakesSpecial command → Tells (AreKeptLists (held call)) call.left → TellsSound (held call) → ¬ ReadFailed call → ¬ WriteFailed call → ¬ KeepFailed call → EndsWith Done status
+  pub special_refused : MakesSpecial command → Tells (AreFaultyKeptLists (held call)) call.left → TellsSound (held call) → ¬ ReadFailed call → ¬ WriteFailed call → ¬ KeepFailed call → EndsWith BadInput status
 
 -- what is written, with the status, by the command
 abbrev pub WritesOf : Command → Call → Status → Type 0

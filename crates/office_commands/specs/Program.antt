@@ -9,6 +9,7 @@ use Rattle.season_commands.specs.Generated.{EndsGeneratedRun, IsGeneratedText}
 use Rattle.resume_command.specs.Resume.{EndsResume, IsScript, TellsSound}
 use Rattle.season_commands.specs.Run.{EndsRun, TellsNoSeason}
 use Rattle.special_command.specs.Special.{EndsSpecial}
+use Rattle.special_command.specs.declared.lists.SpecialPapers.TheVariants.{RoundAlone, WithLists}
 use Rattle.units_command.specs.Units.{EndsUnits, IsFaultyUnits, IsUnitsInput}
 use Rattle.office_commands.specs.Doors.{Doors}
 use Rattle.office_commands.specs.Serve.{EndsServe, EndsServeKept}
@@ -18,7 +19,7 @@ use Rattle.command_answers.specs.Writes.{IsTextOf, IsUsageText, IsWantText, Writ
 use Rattle.command_answers.specs.declared.status.Status.{Status}
 use Rattle.command_answers.specs.declared.status.Status.TheVariants.{Ok as Done}
 use Rattle.command_words.specs.declared.words.Command.{Command}
-use Rattle.command_words.specs.declared.words.Command.TheVariants.{Step, Check, Run, Resume, Units, Special, Serve, Audit, AuditBest, Generate}
+use Rattle.command_words.specs.declared.words.Command.TheVariants.{Step, Check, Run, Resume, Units, Special, SpecialLists, Serve, Audit, AuditBest, Generate}
 use Rattle.command_words.specs.declared.words.OutKind.TheVariants as out_kind
 use Rattle.command_words.specs.declared.words.Start.TheVariants as start
 
@@ -47,7 +48,8 @@ Ends Check left before after doors = EndsText check_answers left before after
 Ends (Run store) left before after doors = EndsRun left before after
 Ends (Resume store) left before after doors = EndsResume left before after
 Ends (Units store) left before after doors = EndsUnits left before after
-Ends (Special store) left before after doors = EndsSpecial left before after
+Ends (Special store) left before after doors = EndsSpecial RoundAlone left before after
+Ends (SpecialLists store) left before after doors = EndsSpecial WithLists left before after
 Ends (Serve conns workers start.New port store) left before after doors = EndsServe left before after doors
 Ends (Serve conns workers start.Kept port store) left before after doors = EndsServeKept before after doors
 Ends Audit left before after doors = EndsAudit left before after
@@ -78,6 +80,7 @@ TellsInput (Run store) left = Tells (IsBundle true) left
 TellsInput (Resume store) left = Tells IsScript left
 TellsInput (Units store) left = Tells IsUnitsInput left
 TellsInput (Special store) left = ⊥
+TellsInput (SpecialLists store) left = ⊥
 TellsInput (Serve conns workers start.New port store) left = Tells (IsBundle false) left
 TellsInput (Serve conns workers start.Kept port store) left = Unit {0}
 TellsInput Audit left = Tells AreDossier left
@@ -105,6 +108,7 @@ IsReady (Run store) tables = TellsNoSeason tables
 IsReady (Resume store) tables = TellsSound tables
 IsReady (Units store) tables = TellsNoSeason tables
 IsReady (Special store) tables = TellsSound tables
+IsReady (SpecialLists store) tables = TellsSound tables
 IsReady (Serve conns workers start.New port store) tables = TellsNoSeason tables
 IsReady (Serve conns workers start.Kept port store) tables = TellsSound tables
 IsReady (Generate n seed out_kind.Run) tables = TellsNoSeason tables
@@ -122,8 +126,15 @@ BeginsOffice other = ⊥
 abbrev pub Resumes : Command → Type 0
 Resumes (Resume store) = Unit {0}
 Resumes (Special store) = Unit {0}
+Resumes (SpecialLists store) = Unit {0}
 Resumes (Serve conns workers start.Kept port store) = Unit {0}
 Resumes other = ⊥
+
+-- the command makes a special round
+abbrev pub MakesSpecial : Command → Type 0
+MakesSpecial (Special store) = Unit {0}
+MakesSpecial (SpecialLists store) = Unit {0}
+MakesSpecial other = ⊥
 
 -- the command reads the source
 abbrev pub ReadsSource : Command → Type 0

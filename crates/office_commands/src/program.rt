@@ -17,7 +17,7 @@ use office_base::{Sink, Source, Words};
 use office_links::Door;
 use resume_command::resume_season;
 use season_commands::{check_answer, run_generated, run_season, write_generated};
-use special_command::special_season;
+use special_command::{SpecialPapers, special_season};
 use std::alloc::Global;
 use std::sync::Wait;
 use std::thread::Threads;
@@ -34,7 +34,7 @@ use units_command::units_season;
 /// `resume` resumes the office that the keeper holds, reads requests and answers them in the same way.
 /// `units` reads a bundle with home-state quotas and continues as `run` with the plain bundle that results from it.
 /// `special` resumes the office that the keeper holds, reads lists of those without an admission, writes the special
-/// round over them and puts nothing.
+/// round over them and puts nothing. `special lists` also writes the list and the cutoffs of each programme in it.
 /// `serve` begins an office with the season that is read, or resumes the one that the keeper holds.
 /// It answers what comes through the doors, with a worker behind each, and writes at the end how far it is.
 /// `audit` reads a dossier and writes whether what was published in it breaks a clause, with status `Broken` if it does.
@@ -98,7 +98,12 @@ fn run<R: Threads + Wait + Sync, S: Source, K: Sink, P: Keeper + Send, D: Door<C
         Command::Run(_) => run_season(alloc, source, sink, keeper),
         Command::Resume(_) => resume_season(alloc, source, sink, keeper),
         Command::Units(_) => units_season(alloc, source, sink, keeper),
-        Command::Special(_) => special_season(alloc, source, sink, keeper),
+        Command::Special(_) => {
+            special_season(alloc, source, sink, keeper, SpecialPapers::RoundAlone)
+        }
+        Command::SpecialLists(_) => {
+            special_season(alloc, source, sink, keeper, SpecialPapers::WithLists)
+        }
         Command::Serve { start, .. } => match start {
             Start::New => serve_season(rt, alloc, source, sink, keeper, doors),
             Start::Kept => serve_kept(rt, alloc, sink, keeper, doors),

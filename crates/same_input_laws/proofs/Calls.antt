@@ -21,6 +21,8 @@ use Rattle.step_command.specs.Step.{step_answers}
 use Rattle.season_commands.specs.Generated.{EndsGeneratedRun, EndsMade, IsGeneratedText}
 use Rattle.units_command.specs.Units.{EndsUnits, units_answers}
 use Rattle.special_command.specs.Special.{EndsSpecial}
+use Rattle.special_command.specs.declared.lists.SpecialPapers.{SpecialPapers}
+use Rattle.special_command.specs.declared.lists.SpecialPapers.TheVariants.{RoundAlone, WithLists}
 use Rattle.same_input_laws.proofs.RunEnds.{IsRefused, bundle_of, counted_as_one, left_gives, made_cases, season_cases, want_only}
 use Rattle.same_input_laws.proofs.Written.{not_refused, texts_are_one, whole}
 use Rattle.same_input_laws.proofs.UnitEnds.{input_of, one_plain, plain_of}
@@ -33,7 +35,7 @@ use Rattle.same_input_laws.specs.Calls.{AreOne}
 use Rattle.same_input_laws.specs.AuditOutputs.{EachAuditIsOne}
 use Rattle.command_words.specs.Words.{Spell}
 use Rattle.command_words.specs.declared.words.Command.{Command}
-use Rattle.command_words.specs.declared.words.Command.TheVariants.{Step, Check, Run, Resume, Units, Special, Serve, Audit, AuditBest, Generate}
+use Rattle.command_words.specs.declared.words.Command.TheVariants.{Step, Check, Run, Resume, Units, Special, SpecialLists, Serve, Audit, AuditBest, Generate}
 use Rattle.command_words.specs.declared.words.OutKind.TheVariants as out_kind
 use Rattle.office_commands.specs.Doors.{Doors}
 use Rattle.office_commands.specs.Call.{Call}
@@ -141,14 +143,14 @@ module _ (laws : Laws) (before after later : Tables) (told : IsVisible before af
       let same = laws.resumes bytes output again before after later status end answered answered' told seen first second in
       record { one_status = same.0; one_output = same.1; kept = same.2 }
 
-  special_leaves : (bytes : List ℕ) (tables : Tables) (how : Status) (text : List ℕ) → EndsSpecial (Some bytes) before tables how text → AreTold before tables
-  special_leaves bytes tables how text (inl first) = first.1
-  special_leaves bytes tables how text (inr first) = first.4
+  special_leaves : (papers : SpecialPapers) (bytes : List ℕ) (tables : Tables) (how : Status) (text : List ℕ) → EndsSpecial papers (Some bytes) before tables how text → AreTold before tables
+  special_leaves papers bytes tables how text (inl first) = first.1
+  special_leaves papers bytes tables how text (inr first) = first.4
 
-  specials_are_one : (bytes : List ℕ) → EndsSpecial (Some bytes) before after status output → EndsSpecial (Some bytes) before later end again → One
-  specials_are_one bytes first second =
-      left_as (laws.specials bytes output again before after later status end answered answered' told seen first second) (special_leaves bytes after status output first)
-      (special_leaves bytes later end again second)
+  specials_are_one : (papers : SpecialPapers) (bytes : List ℕ) → EndsSpecial papers (Some bytes) before after status output → EndsSpecial papers (Some bytes) before later end again → One
+  specials_are_one papers bytes first second =
+      left_as (laws.specials papers bytes output again before after later status end answered answered' told seen first second) (special_leaves papers bytes after status output first)
+      (special_leaves papers bytes later end again second)
 
   audits_are_one : (bytes : List ℕ) → EndsAudit (Some bytes) before after status output → EndsAudit (Some bytes) before later end again → One
   audits_are_one bytes first second =
@@ -205,7 +207,8 @@ module _ (laws : Laws) (before after later : Tables) (told : IsVisible before af
   ends_as_one bytes doors others (Run store) unserved first second = runs_are_one bytes first second
   ends_as_one bytes doors others (Resume store) unserved first second = resumes_are_one bytes first second
   ends_as_one bytes doors others (Units store) unserved first second = units_are_one bytes first second
-  ends_as_one bytes doors others (Special store) unserved first second = specials_are_one bytes first second
+  ends_as_one bytes doors others (Special store) unserved first second = specials_are_one RoundAlone bytes first second
+  ends_as_one bytes doors others (SpecialLists store) unserved first second = specials_are_one WithLists bytes first second
   ends_as_one bytes doors others (Serve conns workers start port store) unserved first second = absurd (unserved tt)
   ends_as_one bytes doors others Audit unserved first second = audits_are_one bytes first second
   ends_as_one bytes doors others AuditBest unserved first second = best_are_one bytes first second

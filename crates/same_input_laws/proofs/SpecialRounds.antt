@@ -1,12 +1,18 @@
 -- The text of the special round over the same final rows and the same lists is one.
-use Rattle.std.proofs.Common.{◌≡◌, ◌-◌, ◌++◌, ℕ, List, length, refl, sym, ap, ◌∙◌, subst}
+use Rattle.std.proofs.Common.{◌≡◌, ◌-◌, ◌++◌, ◌∷◌, [], ℕ, suc, List, Some, length, refl, sym, ap, ◌∙◌, subst, arith}
+use Rattle.std.specs.Prelude.{slice_get}
+use Rattle.std.specs.List.{flat_map}
 use Rattle.office_base.specs.declared.person.Person.{Person}
 use Rattle.office_base.specs.declared.person.ProgId.{ProgId}
 use Rattle.section_rows.specs.Rows.{Row, rows_of}
 use Rattle.slot_cert.specs.Laws.{OneCertificate}
 use Rattle.kept_rows.specs.declared.rows.AllotRow.{AllotRow}
 use Rattle.rank_lists.specs.Register.{Ranks}
-use Rattle.seat_matrix.specs.Matrix.{SeatTable}
+use Rattle.seat_matrix.specs.Matrix.{SeatTable, seats_in}
+use Rattle.programme_lists.specs.declared.programme.Programme.{Programme}
+use Rattle.list_cutoffs.specs.Cutoffs.{AreCutoffsIn, AreKeptListed}
+use Rattle.list_cutoffs.specs.Laws.{OneListOfCutoffs}
+use Rattle.list_cutoffs.specs.declared.cutoffs.StepCutoff.{StepCutoff}
 use Rattle.choice_lists.specs.Choices.{IsRead}
 use Rattle.choice_lists.specs.Laws.{HaveOneReading}
 use Rattle.rounds.specs.Round.{IsRound, seated}
@@ -16,11 +22,14 @@ use Rattle.round_laws.specs.Laws.{Enter, OneRound, lists_in}
 use Rattle.office_moves.specs.Facts.{IsSound, SeasonFacts, register_of}
 use Rattle.office_moves.specs.Raised.{total_seats}
 use Rattle.season_facts.specs.Season.{facts_of}
-use Rattle.published_texts.specs.Texts.{round_text}
+use Rattle.published_texts.specs.Texts.{list_text, round_text}
+use Rattle.reply_texts.specs.Replies.{cutoffs_text}
 use Rattle.special_round.specs.Remaining.{IsRemaining}
 use Rattle.special_round.specs.Special.{IsSpecialOver, all_whole}
 use Rattle.special_round.specs.declared.round_over.Special.{Special}
-use Rattle.special_command.specs.Texts.{special_line, special_text}
+use Rattle.special_command.specs.Texts.{AreProgrammeTexts, CanBeListed, IsProgrammeText, IsTextOf, special_line, special_text}
+use Rattle.special_command.specs.declared.lists.SpecialPapers.{SpecialPapers}
+use Rattle.special_command.specs.declared.lists.SpecialPapers.TheVariants.{RoundAlone, WithLists}
 use Rattle.published_rounds.proofs.Special.{left_sound}
 use Rattle.same_input_laws.proofs.Remaining.{Rising, one_remaining}
 
@@ -55,11 +64,17 @@ entrants_of enter facts table rows body special made =
     subst (λ (people : List Person). AreEntrants season.matrix people (lists_in season.choices)) made.people
     (enter (register_of (facts_of season)) season.matrix season.matrix season.choices made.sound.ranks made.sound.choices made.sound.aligned refl)
 
--- The text of a special round is one.
-pub one_text : OneCertificate → ((ranks : Ranks) (seats : SeatTable) (rows : List Row) → HaveOneReading ranks seats rows) → Enter → OneRound → (facts : SeasonFacts) (table : SeatTable)
-    (rows : List AllotRow) (body : List ℕ) (special other : Special) → Rising rows → IsMade facts table rows body special → IsMade facts table rows body other
-    → special_text special ≡ special_text other
-one_text certificate reading enter one facts table rows body special other rising first second =
+-- What two special rounds have in common.
+pub record AreAlike (special other : Special) : Type 0 where
+  pub matrix : special.season.matrix ≡ other.season.matrix
+  pub round : special.round ≡ other.round
+  pub vacant : special.vacant ≡ other.vacant
+  pub register : special.season.register.people ≡ other.season.register.people
+
+-- Special rounds over the same final rows and the same lists are alike.
+pub alike : OneCertificate → ((ranks : Ranks) (seats : SeatTable) (rows : List Row) → HaveOneReading ranks seats rows) → Enter → OneRound → (facts : SeasonFacts) (table : SeatTable)
+    (rows : List AllotRow) (body : List ℕ) (special other : Special) → Rising rows → IsMade facts table rows body special → IsMade facts table rows body other → AreAlike special other
+alike certificate reading enter one facts table rows body special other rising first second =
     let people = facts.people in
     let a = special.season in
     let b = other.season in
@@ -68,11 +83,50 @@ one_text certificate reading enter one facts table rows body special other risin
     let by_matrix = subst (λ (t : SeatTable). IsRound facts.version t people (lists_in b.choices) 1 (all_whole people) other.round) (sym matrix) second.round in
     let by_lists = subst (λ (l : List (List ProgId)). IsRound facts.version a.matrix people l 1 (all_whole people) other.round) (sym lists) by_matrix in
     let entrants = entrants_of enter facts table rows body special first in
-    let round : special.round ≡ other.round =
-    one facts.version 1 a.matrix people (lists_in a.choices) (all_whole people) special.round other.round first.sound.seats entrants first.round by_lists in
-    let vacant = first.vacant ∙ sym second.vacant in
-    let register = first.people ∙ sym second.people in
-    ap (λ n. special_line n (seated special.round.seats) ++ round_text a.matrix a.register.people special.round) vacant
-    ∙ (ap (λ (r : Round). special_line other.vacant (seated r.seats) ++ round_text a.matrix a.register.people r) round
-    ∙ (ap (λ (t : SeatTable). special_line other.vacant (seated other.round.seats) ++ round_text t a.register.people other.round) matrix
-    ∙ ap (λ (p : List Person). special_line other.vacant (seated other.round.seats) ++ round_text b.matrix p other.round) register))
+    record {
+      matrix = matrix;
+      round = one facts.version 1 a.matrix people (lists_in a.choices) (all_whole people) special.round other.round first.sound.seats entrants first.round by_lists;
+      vacant = first.vacant ∙ sym second.vacant;
+      register = first.people ∙ sym second.people;
+    }
+
+-- The text of a special round is one.
+one_text : (special other : Special) → AreAlike special other → special_text special ≡ special_text other
+one_text special other are =
+    ap (λ n. special_line n (seated special.round.seats) ++ round_text special.season.matrix special.season.register.people special.round) are.vacant
+    ∙ (ap (λ (r : Round). special_line other.vacant (seated r.seats) ++ round_text special.season.matrix special.season.register.people r) are.round
+    ∙ (ap (λ (t : SeatTable). special_line other.vacant (seated other.round.seats) ++ round_text t special.season.register.people other.round) are.matrix
+    ∙ ap (λ (p : List Person). special_line other.vacant (seated other.round.seats) ++ round_text other.season.matrix p other.round) are.register))
+
+-- The text of a programme is one.
+one_programme : OneListOfCutoffs → (table : SeatTable) (round : Round) (prog : ℕ) (text again : List ℕ)
+    → ((programme : Programme) → slice_get round.programmes prog ≡ Some programme → AreKeptListed (seats_in table prog) programme.steps) → IsProgrammeText table round prog text → IsProgrammeText table round prog again
+    → text ≡ again
+one_programme one table round prog text again kept (p, lines, there, are, is) (q, more, its, they, other) =
+    let both : Some p ≡ Some q = sym there ∙ its in
+    let same : p ≡ q = cc in
+    let they' = subst (λ (x : Programme). AreCutoffsIn (seats_in table prog) x.steps more) (sym same) they in
+    let lined : lines ≡ more = one (seats_in table prog) p.steps lines more (kept p there) are they' in
+    is ∙ ap (λ (l : List StepCutoff). list_text table round.number prog p ++ cutoffs_text table round.number prog l) lined
+    ∙ ap (λ (x : Programme). list_text table round.number prog x ++ cutoffs_text table round.number prog more) same ∙ sym other
+
+-- two lists with the same elements at the same places
+same_places : {X : Type 0} (xs ys : List X) → length xs ≡ length ys → ((n : ℕ) (x y : X) → slice_get xs n ≡ Some x → slice_get ys n ≡ Some y → x ≡ y) → xs ≡ ys
+same_places [] [] long each = refl
+same_places [] (y ∷ ys) long each = absurd (omega (arith, long))
+same_places (x ∷ xs) [] long each = absurd (omega (arith, long))
+same_places (x ∷ xs) (y ∷ ys) long each =
+    let here : x ≡ y = each 0 x y refl refl in
+    let rest : xs ≡ ys = same_places xs ys (omega (arith, long)) (λ n a b. each (suc n) a b) in
+    λ i. here i ∷ rest i
+
+-- What is written of a special round is one.
+pub one_papers : OneListOfCutoffs → (papers : SpecialPapers) (special other : Special) (text again : List ℕ) → AreAlike special other → CanBeListed special → IsTextOf papers special text
+    → IsTextOf papers other again → text ≡ again
+one_papers one RoundAlone special other text again are listed is its = is ∙ one_text special other are ∙ sym its
+one_papers one WithLists special other text again are listed (texts, all, is) (more, they, its) =
+    let by_matrix = subst (λ (t : SeatTable). AreProgrammeTexts t other.round more) (sym are.matrix) they in
+    let here : AreProgrammeTexts special.season.matrix special.round more = subst (λ (r : Round). AreProgrammeTexts special.season.matrix r more) (sym are.round) by_matrix in
+    let same : texts ≡ more = same_places texts more (all.count ∙ sym here.count)
+    (λ prog t u at there. one_programme one special.season.matrix special.round prog t u (λ programme shows. listed.kept prog programme shows) (all.each prog t at) (here.each prog u there)) in
+    is ∙ ap (λ (l : List ℕ). l ++ flat_map (λ text. text) texts) (one_text special other are) ∙ ap (λ (l : List (List ℕ)). special_text other ++ flat_map (λ text. text) l) same ∙ sym its

@@ -68,6 +68,8 @@ pub fn specials_are_one()
     round_laws::laws::enter();
     round_laws::laws::one_round();
     special_command::laws::one_special_answer();
+    special_command::laws::special_rounds_can_be_listed();
+    list_cutoffs::laws::one_list();
 }
 
 /// Two runs of `audit` over the same bytes, both with an answer, end with the same status and write the same.

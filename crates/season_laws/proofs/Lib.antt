@@ -14,3 +14,4 @@ mod Stays
 mod InWindows
 mod Replayed
 pub mod TextsStay
+mod ToTheEnd

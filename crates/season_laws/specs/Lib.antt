@@ -6,3 +6,4 @@ pub mod ReadBack
 pub mod Reasons
 pub mod Kept
 pub mod Lasting
+pub mod ToTheEnd

@@ -7,6 +7,7 @@ ghost use Rattle.season_laws.specs.Otherwise.{FloatIsNoWorse, RaisesHurtNobody};
 ghost use Rattle.season_laws.specs.ReadBack.{PublishedIsRead, PublishedIsReadAlone};
 ghost use Rattle.season_laws.specs.Reasons.{OfficeReasonsAreJust, ToldReasonsAreJust};
 ghost use Rattle.season_laws.specs.Kept.{KeptHasNoFault, KeptIsReplayed};
+ghost use Rattle.season_laws.specs.ToTheEnd.{HoldersAreAdmitted, NobodyFallsLater};
 ghost use Rattle.season_laws.specs.Lasting.{CutsShowTheirRounds, FinalTextsStay, ReceiptsStay, RoundTextsStay};
 
 /// The reply to a raise looks at the season, at how many cuts were made and at the accepted raises alone.
@@ -186,3 +187,17 @@ pub fn receipts_stay()
 pub fn cuts_show_their_rounds()
     ensures { (facts : SeasonFacts) → CutsShowTheirRounds facts }
 {}
+
+/// Who freezes, floats or slides at each cut has a seat in every later round, and never a lower one.
+pub fn nobody_falls_later()
+    ensures { (facts : SeasonFacts) → NobodyFallsLater facts }
+{
+    history_laws::laws::orderly();
+}
+
+/// Who also does so at the final cut is admitted, and to no lower seat than the first.
+pub fn holders_are_admitted()
+    ensures { (facts : SeasonFacts) → HoldersAreAdmitted facts }
+{
+    history_laws::laws::orderly();
+}

@@ -1,3 +1,4 @@
 mod Shown
 mod OneSpecial
 mod SpecialEnds
+mod Listed

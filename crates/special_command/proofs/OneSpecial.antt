@@ -8,6 +8,7 @@ use Rattle.special_round.specs.Laws.{HaveOneAnswer}
 use Rattle.special_round.specs.Season.{IsSpecialFault, MayBeHeld}
 use Rattle.special_round.specs.declared.fault.SpecialFault.{SpecialFault}
 use Rattle.special_round.specs.declared.fault.SpecialFault.TheVariants.{OutOfMemory}
+use Rattle.special_command.specs.declared.lists.SpecialPapers.{SpecialPapers}
 use Rattle.special_command.specs.Texts.{special_fault_line}
 use Rattle.special_command.specs.Special.{AreFaultyLists, AreSpecialLists, HaveOneSpecial, IsListsFaultLine, IsSpecialOutput}
 
@@ -33,8 +34,8 @@ one_special facts state bytes law = record {
     apart is (inl long) = omega (arith, is.0, long)
     apart is (inr has) = has.1.2 (law.apart has.0 is.1 has.1.1)
 
-    of_input : (output : List ℕ) → IsSpecialOutput facts state bytes output → AreSpecialLists facts state bytes
-    of_input output made = let (short, more) = made in let (special, is, text) = more in let (rows, finals, over) = is in (short, law.held special.season (rows, finals, over.season))
+    of_input : (papers : SpecialPapers) (output : List ℕ) → IsSpecialOutput papers facts state bytes output → AreSpecialLists facts state bytes
+    of_input papers output made = let (short, more) = made in let (special, is, text) = more in let (rows, finals, over) = is in (short, law.held special.season (rows, finals, over.season))
 
     of_fault : (line : List ℕ) → IsListsFaultLine facts state bytes line → AreFaultyLists facts state bytes
     of_fault line (inl has) = inl has.0

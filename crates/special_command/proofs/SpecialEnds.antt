@@ -16,48 +16,49 @@ use Rattle.command_answers.specs.declared.status.Status.{Status}
 use Rattle.command_answers.specs.declared.status.Status.TheVariants.{Ok as Done, OutOfMemory}
 use Rattle.command_answers.proofs.Ended.{answer_is_written, status_is_told, told_is_written}
 use Rattle.resume_command.proofs.ResumeEnds.{still_resumed}
+use Rattle.special_command.specs.declared.lists.SpecialPapers.{SpecialPapers}
 use Rattle.special_command.specs.Special.{AreFaultyLists, AreSpecialLists, EndsSpecial, HaveOneSpecial, IsListsFaultLine, IsSpecialOutput, IsSpecialText, IsToldFault, special_answers, too_long_line}
 
 -- ---- why there is no special round
 
 -- A failure that reports a fault of short lists has its cause.
-pub fault_failed : (facts : SeasonFacts) (state : State) (bytes : List ℕ) (fault : SpecialFault) (failure : Failure) → length bytes ≤ most_bundle_bytes → IsSpecialFault facts state bytes fault
-    → IsToldFault fault failure → IsInputFailure (special_answers facts state) bytes failure
-fault_failed facts state bytes fault Read short has told = told
-fault_failed facts state bytes fault (Bad line) short has told = inr (fault, (short, has, told.0), told.1)
-fault_failed facts state bytes fault NoMemory short has told = tt
+pub fault_failed : (papers : SpecialPapers) (facts : SeasonFacts) (state : State) (bytes : List ℕ) (fault : SpecialFault) (failure : Failure) → length bytes ≤ most_bundle_bytes → IsSpecialFault facts state bytes fault
+    → IsToldFault fault failure → IsInputFailure (special_answers papers facts state) bytes failure
+fault_failed papers facts state bytes fault Read short has told = told
+fault_failed papers facts state bytes fault (Bad line) short has told = inr (fault, (short, has, told.0), told.1)
+fault_failed papers facts state bytes fault NoMemory short has told = tt
 
 -- So has one that reports too many bytes.
-pub long_failed : (facts : SeasonFacts) (state : State) (bytes : List ℕ) (failure : Failure) → most_bundle_bytes < length bytes → TellsLine too_long_line failure
-    → IsInputFailure (special_answers facts state) bytes failure
-long_failed facts state bytes Read long told = told
-long_failed facts state bytes (Bad line) long told = inl (long, told)
-long_failed facts state bytes NoMemory long told = tt
+pub long_failed : (papers : SpecialPapers) (facts : SeasonFacts) (state : State) (bytes : List ℕ) (failure : Failure) → most_bundle_bytes < length bytes → TellsLine too_long_line failure
+    → IsInputFailure (special_answers papers facts state) bytes failure
+long_failed papers facts state bytes Read long told = told
+long_failed papers facts state bytes (Bad line) long told = inl (long, told)
+long_failed papers facts state bytes NoMemory long told = tt
 
 -- ---- how the round is written
 
 -- A special round was written.
-pub round_ends : (facts : SeasonFacts) (state : State) (left : Option (List ℕ)) (text shown : List ℕ) (written now : Option (List ℕ)) (broke : Type 0) (result : Status)
-    → HasLeft (IsSpecialOutput facts state) left text → shown ≡ text → IsTextOut Done shown written now broke result
-    → (output : List ℕ) × Appends output written now × Writes (IsSpecialText facts state left) result output
-round_ends facts state left text shown written now broke result made same told =
-    told_is_written (IsSpecialText facts state left) Done result shown written now broke (subst (HasLeft (IsSpecialOutput facts state) left) (sym same) made) told
+pub round_ends : (papers : SpecialPapers) (facts : SeasonFacts) (state : State) (left : Option (List ℕ)) (text shown : List ℕ) (written now : Option (List ℕ)) (broke : Type 0) (result : Status)
+    → HasLeft (IsSpecialOutput papers facts state) left text → shown ≡ text → IsTextOut Done shown written now broke result
+    → (output : List ℕ) × Appends output written now × Writes (IsSpecialText papers facts state left) result output
+round_ends papers facts state left text shown written now broke result made same told =
+    told_is_written (IsSpecialText papers facts state left) Done result shown written now broke (subst (HasLeft (IsSpecialOutput papers facts state) left) (sym same) made) told
 
 -- It was written why there is none.
-pub none_ends : (facts : SeasonFacts) (state : State) (left : Option (List ℕ)) (failed : Type 0) (failure : Failure) (written now : Option (List ℕ)) (broke : Type 0) (result : Status)
-    → IsFailureOf (special_answers facts state) left failed failure → IsTextOut (status_of (Err failure)) (text_of (Err failure)) written now broke result
-    → (output : List ℕ) × Appends output written now × Writes (IsSpecialText facts state left) result output
-none_ends facts state left failed failure written now broke result cause told =
-    answer_is_written (special_answers facts state) left failed (Err failure) result written now broke tt cause told
+pub none_ends : (papers : SpecialPapers) (facts : SeasonFacts) (state : State) (left : Option (List ℕ)) (failed : Type 0) (failure : Failure) (written now : Option (List ℕ)) (broke : Type 0) (result : Status)
+    → IsFailureOf (special_answers papers facts state) left failed failure → IsTextOut (status_of (Err failure)) (text_of (Err failure)) written now broke result
+    → (output : List ℕ) × Appends output written now × Writes (IsSpecialText papers facts state left) result output
+none_ends papers facts state left failed failure written now broke result cause told =
+    answer_is_written (special_answers papers facts state) left failed (Err failure) result written now broke tt cause told
 
 -- ---- which lists are answered
 
 -- No round is written over lists with a fault,
-pub no_round : (facts : SeasonFacts) (state : State) (left : Option (List ℕ)) (text : List ℕ) → ((facts : SeasonFacts) (state : State) (bytes : List ℕ) → HaveOneSpecial facts state bytes)
-    → HasLeft (IsSpecialOutput facts state) left text → Tells (AreFaultyLists facts state) left → ⊥
-no_round facts state None text laws made tells = tells
-no_round facts state (Some bytes) text laws made tells =
-    (laws facts state bytes).apart (subst (AreSpecialLists facts state) made.1 ((laws facts state made.0).of_input text made.2)) tells
+pub no_round : (papers : SpecialPapers) (facts : SeasonFacts) (state : State) (left : Option (List ℕ)) (text : List ℕ) → ((facts : SeasonFacts) (state : State) (bytes : List ℕ) → HaveOneSpecial facts state bytes)
+    → HasLeft (IsSpecialOutput papers facts state) left text → Tells (AreFaultyLists facts state) left → ⊥
+no_round papers facts state None text laws made tells = tells
+no_round papers facts state (Some bytes) text laws made tells =
+    (laws facts state bytes).apart (subst (AreSpecialLists facts state) made.1 ((laws facts state made.0).of_input papers text made.2)) tells
 
 -- and no fault of lists without one.
 no_fault : (facts : SeasonFacts) (state : State) (left : Option (List ℕ)) (line : List ℕ) → ((facts : SeasonFacts) (state : State) (bytes : List ℕ) → HaveOneSpecial facts state bytes)
@@ -67,13 +68,13 @@ no_fault facts state (Some bytes) line laws has tells =
     (laws facts state bytes).apart tells (subst (AreFaultyLists facts state) has.1 ((laws facts state has.0).of_fault line has.2))
 
 -- Lists without a fault are answered, if neither side failed and memory did not run out.
-pub lists_are_answered : (facts : SeasonFacts) (state : State) (left : Option (List ℕ)) (failed : Type 0) (failure : Failure) (written now : Option (List ℕ)) (broke : Type 0) (result : Status)
-    → ((facts : SeasonFacts) (state : State) (bytes : List ℕ) → HaveOneSpecial facts state bytes) → IsFailureOf (special_answers facts state) left failed failure
+pub lists_are_answered : (papers : SpecialPapers) (facts : SeasonFacts) (state : State) (left : Option (List ℕ)) (failed : Type 0) (failure : Failure) (written now : Option (List ℕ)) (broke : Type 0) (result : Status)
+    → ((facts : SeasonFacts) (state : State) (bytes : List ℕ) → HaveOneSpecial facts state bytes) → IsFailureOf (special_answers papers facts state) left failed failure
     → IsTextOut (status_of (Err failure)) (text_of (Err failure)) written now broke result → Tells (AreSpecialLists facts state) left → (failed → ⊥) → (broke → ⊥)
     → (result ≡ Done) ⊎ (result ≡ OutOfMemory)
-lists_are_answered facts state left failed Read written now broke result laws cause told tells read wrote = absurd (read cause)
-lists_are_answered facts state left failed (Bad line) written now broke result laws cause told tells read wrote = absurd (no_fault facts state left line laws cause tells)
-lists_are_answered facts state left failed NoMemory written now broke result laws cause told tells read wrote = inr (status_is_told OutOfMemory result _ written now broke told wrote)
+lists_are_answered papers facts state left failed Read written now broke result laws cause told tells read wrote = absurd (read cause)
+lists_are_answered papers facts state left failed (Bad line) written now broke result laws cause told tells read wrote = absurd (no_fault facts state left line laws cause tells)
+lists_are_answered papers facts state left failed NoMemory written now broke result laws cause told tells read wrote = inr (status_is_told OutOfMemory result _ written now broke told wrote)
 
 -- ---- all together
 
@@ -83,10 +84,10 @@ still_here facts state before held after resumed told same =
     still_resumed before held after facts state told (λ was. subst (λ (t : Tables). IsTablesTold t) same was) resumed
 
 -- An office went on.
-pub resumed_ends : (facts : SeasonFacts) (state : State) (left : Option (List ℕ)) (before held after : Tables) (written now : Option (List ℕ)) (status : Status)
-    → IsResumed held facts state → AreTold before held → after ≡ held → (output : List ℕ) × Appends output written now × Writes (IsSpecialText facts state left) status output
-    → (output : List ℕ) × Appends output written now × EndsSpecial left before after status output
-resumed_ends facts state left before held after written now status resumed told same end = (
+pub resumed_ends : (papers : SpecialPapers) (facts : SeasonFacts) (state : State) (left : Option (List ℕ)) (before held after : Tables) (written now : Option (List ℕ)) (status : Status)
+    → IsResumed held facts state → AreTold before held → after ≡ held → (output : List ℕ) × Appends output written now × Writes (IsSpecialText papers facts state left) status output
+    → (output : List ℕ) × Appends output written now × EndsSpecial papers left before after status output
+resumed_ends papers facts state left before held after written now status resumed told same end = (
   end.0,
   end.1,
   inr (facts, state, still_here facts state before held after resumed told same, end.2, subst (λ (t : Tables). AreTold before t) (sym same) told),

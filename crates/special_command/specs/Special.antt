@@ -13,7 +13,8 @@ use Rattle.special_round.specs.Special.{IsSpecial}
 use Rattle.special_round.specs.declared.fault.SpecialFault.{SpecialFault}
 use Rattle.special_round.specs.declared.fault.SpecialFault.TheVariants.{OutOfMemory as NoMemoryForRound}
 use Rattle.special_round.specs.declared.round_over.Special.{Special}
-use Rattle.special_command.specs.Texts.{special_fault_line, special_text}
+use Rattle.special_command.specs.Texts.{IsTextOf as IsPapersOf, special_fault_line}
+use Rattle.special_command.specs.declared.lists.SpecialPapers.{SpecialPapers}
 use Rattle.command_answers.specs.Answers.{Answers}
 use Rattle.command_answers.specs.Writes.{IsTextOf, Writes}
 use Rattle.command_answers.specs.declared.failure.Failure.{Failure}
@@ -44,16 +45,16 @@ abbrev pub IsListsFaultLine : SeasonFacts → State → List ℕ → List ℕ �
 IsListsFaultLine facts state bytes line = ((most_bundle_bytes < length bytes) × (line ≡ too_long_line))
     ⊎ ((fault : SpecialFault) × HaveSpecialFault facts state bytes fault × (line ≡ special_fault_line fault))
 
--- the text of a special round over the bytes
-abbrev pub IsSpecialOutput : SeasonFacts → State → List ℕ → List ℕ → Type 0
-IsSpecialOutput facts state bytes output = (length bytes ≤ most_bundle_bytes) × ((special : Special) × IsSpecial facts state bytes special × (output ≡ special_text special))
+-- what is written of a special round over the bytes
+abbrev pub IsSpecialOutput : SpecialPapers → SeasonFacts → State → List ℕ → List ℕ → Type 0
+IsSpecialOutput papers facts state bytes output = (length bytes ≤ most_bundle_bytes) × ((special : Special) × IsSpecial facts state bytes special × IsPapersOf papers special output)
 
 -- what the command answers to the bytes over that state
-abbrev pub special_answers : SeasonFacts → State → Answers
-special_answers facts state = record {
+abbrev pub special_answers : SpecialPapers → SeasonFacts → State → Answers
+special_answers papers facts state = record {
   IsInput = AreSpecialLists facts state;
   IsFaulty = AreFaultyLists facts state;
-  IsOutput = IsSpecialOutput facts state;
+  IsOutput = IsSpecialOutput papers facts state;
   IsFaultLine = IsListsFaultLine facts state;
 }
 
@@ -62,7 +63,7 @@ special_answers facts state = record {
 pub record HaveOneSpecial (facts : SeasonFacts) (state : State) (bytes : List ℕ) : Type 0 where
   pub some : AreSpecialLists facts state bytes ⊎ AreFaultyLists facts state bytes
   pub apart : AreSpecialLists facts state bytes → AreFaultyLists facts state bytes → ⊥
-  pub of_input : (output : List ℕ) → IsSpecialOutput facts state bytes output → AreSpecialLists facts state bytes
+  pub of_input : (papers : SpecialPapers) (output : List ℕ) → IsSpecialOutput papers facts state bytes output → AreSpecialLists facts state bytes
   pub of_fault : (line : List ℕ) → IsListsFaultLine facts state bytes line → AreFaultyLists facts state bytes
   pub one_line : (line other : List ℕ) → IsListsFaultLine facts state bytes line → IsListsFaultLine facts state bytes other → line ≡ other
 
@@ -85,15 +86,15 @@ AreFaultyKeptLists tables bytes = (facts : SeasonFacts) (state : State) → IsRe
 -- ---- how the command ends
 
 -- the whole text that goes with each status if an office resumes, for the bytes that the source had left
-abbrev pub IsSpecialText : SeasonFacts → State → Option (List ℕ) → Status → List ℕ → Type 0
-IsSpecialText facts state left = IsTextOf (special_answers facts state) left
+abbrev pub IsSpecialText : SpecialPapers → SeasonFacts → State → Option (List ℕ) → Status → List ℕ → Type 0
+IsSpecialText papers facts state left = IsTextOf (special_answers papers facts state) left
 
 -- how `special` ends: no office resumes; or the records lead to the state of a season, and its special round is
 -- written, or why there is none.
 -- The tables are unchanged. What was kept is visible if the tables are visible both before and after.
-abbrev pub EndsSpecial : Option (List ℕ) → Tables → Tables → Status → List ℕ → Type 0
-EndsSpecial left before after status output = EndsUnresumed before after status output
-    ⊎ ((facts : SeasonFacts) × (state : State) × IsResumed (still before after) facts state × Writes (IsSpecialText facts state left) status output × AreTold before after)
+abbrev pub EndsSpecial : SpecialPapers → Option (List ℕ) → Tables → Tables → Status → List ℕ → Type 0
+EndsSpecial papers left before after status output = EndsUnresumed before after status output
+    ⊎ ((facts : SeasonFacts) × (state : State) × IsResumed (still before after) facts state × Writes (IsSpecialText papers facts state left) status output × AreTold before after)
 
 -- what comes after sound records: lists without errors are answered, and faulty ones are refused
 abbrev pub AnswersLists : Readable → Readable → Outside → Outside → Status → Type 0

@@ -6,7 +6,7 @@ ghost use Rattle.season_facts.specs.Season.{facts_of};
 ghost use Rattle.seat_matrix.specs.Matrix.{SeatTable};
 ghost use Rattle.special_round.specs.Special.{IsSpecialOver};
 ghost use Rattle.special_round.specs.declared.round_over.Special.{Special};
-ghost use Rattle.special_command.specs.Texts.{CanBeShown};
+ghost use Rattle.special_command.specs.Texts.{CanBeListed, CanBeShown};
 ghost use Rattle.office_moves.specs.State.{State};
 ghost use Rattle.special_command.specs.Special.{HaveOneSpecial};
 
@@ -16,6 +16,17 @@ pub fn special_rounds_can_be_shown()
         (body : List ℕ) (special : Special) → IsSound (facts_of special.season)
         → IsSpecialOver facts table rows body special → CanBeShown special }
 {}
+
+/// The lists of every special round can be shown, and they have cutoffs.
+pub fn special_rounds_can_be_listed()
+    ensures { (facts : SeasonFacts) (table : SeatTable) (rows : List AllotRow)
+        (body : List ℕ) (special : Special) → IsSound (facts_of special.season)
+        → IsSpecialOver facts table rows body special → CanBeListed special }
+{
+    round_laws::laws::choose_well();
+    open_then_category::laws::slots_are_traits();
+    programme_cutoffs::laws::lists_are_kept();
+}
 
 /// Shows that over the state of an office bytes are lists of a special round without faults or have a fault,
 /// and never both.

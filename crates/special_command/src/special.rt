@@ -14,8 +14,9 @@ ghost use Rattle.resume_command.specs.Resume.{JudgesRecords, TellsNoOffice};
 ghost use Rattle.special_round.specs.Season.{IsSpecialFault};
 ghost use Rattle.special_command.specs.Special.{AnswersLists, AreFaultyLists, AreSpecialLists, EndsSpecial, IsSpecialOutput, IsSpecialText, IsToldFault, special_answers, too_long_line};
 
-use crate::laws::{one_special_answer, special_rounds_can_be_shown};
-use crate::{special_fault_text, special_text};
+use crate::laws::{one_special_answer, special_rounds_can_be_listed, special_rounds_can_be_shown};
+use crate::lists::{SpecialPapers, papers_text};
+use crate::special_fault_text;
 use command_answers::{Failure, Status, tell_failure, write_answer};
 use keeper_mem::Keeper;
 use office_base::limits::MOST_BUNDLE_BYTES;
@@ -29,15 +30,16 @@ use std::marker::Brand;
 use std::sync::ledger::{Blank, Ledger};
 
 /// Resumes the office that the keeper holds, reads the lists that the source gives,
-/// and writes the special round over them.
+/// and writes the special round over them, alone or with the list and the cutoffs of each programme.
 /// The source is read after the office has resumed. It puts nothing into the keeper, and returns it.
 pub fn special_season<S: Source, K: Sink, P: Keeper>(
     alloc: Global,
     source: &mut S,
     sink: &mut K,
     keeper: P,
+    papers: SpecialPapers,
 ) -> (Status, P)
-    ensures written { Outputs (EndsSpecial (S.left source.old)) (outside_of K.Sink P.Keeper
+    ensures written { Outputs (EndsSpecial papers (S.left source.old)) (outside_of K.Sink P.Keeper
         sink.old keeper) (outside_of K.Sink P.Keeper sink.new result.1) result.0 }
     ensures read_whole { result.0 ≡ Status.Ok → IsAtEnd (S.left source.new) }
     ensures read_blamed { BlamesSource result.0 (source_of S.Source source.old)
@@ -54,7 +56,7 @@ pub fn special_season<S: Source, K: Sink, P: Keeper>(
         → source.new ≡ source.old }
 {
     match resume_office(alloc, sink, keeper) {
-        Ok(office) => tell_round(alloc, office, source, sink),
+        Ok(office) => tell_round(alloc, office, source, sink, papers),
         Err(ended) => ended,
     }
 }
@@ -65,9 +67,10 @@ fn tell_round<S: Source, K: Sink, P: Keeper>(
     office: Office<P>,
     source: &mut S,
     sink: &mut K,
+    papers: SpecialPapers,
 ) -> (Status, P)
-    ensures written { WritesFor (IsSpecialText office.season office.state (S.left source.old))
-        (sink_of K.Sink sink.old) (sink_of K.Sink sink.new) result.0 }
+    ensures written { WritesFor (IsSpecialText papers office.season office.state
+        (S.left source.old)) (sink_of K.Sink sink.old) (sink_of K.Sink sink.new) result.0 }
     ensures same { result.1 ≡ office.keeper }
     ensures read_whole { result.0 ≡ Status.Ok → IsAtEnd (S.left source.new) }
     ensures no_difference { result.0 ≢ Status.Differs }
@@ -81,7 +84,7 @@ fn tell_round<S: Source, K: Sink, P: Keeper>(
         → ¬ Rose (K.faults sink.old) (K.faults sink.new) → EndsWith Status.BadInput result.0 }
 {
     one_special_answer();
-    match special_answer(alloc, &office, source) {
+    match special_answer(alloc, &office, source, papers) {
         Ok(text) => (
             write_answer(sink, text.as_slice(), Status::Ok),
             office.into_keeper(),
@@ -95,17 +98,18 @@ fn special_answer<S: Source, P: Keeper>(
     alloc: Global,
     office: &Office<P>,
     source: &mut S,
+    papers: SpecialPapers,
 ) -> Result<Text, Failure>
     ensures output { IfOk result
-        (HasLeft (IsSpecialOutput office.now.season office.now.state) (S.left source.old)) }
+        (HasLeft (IsSpecialOutput papers office.now.season office.now.state) (S.left source.old)) }
     ensures ended { OnOk result (IsAtEnd (S.left source.new)) }
-    ensures failure { IfErr result (IsFailureOf (special_answers office.now.season office.now.state)
-        (S.left source.old) (Rose (S.faults source.old) (S.faults source.new))) }
+    ensures failure { IfErr result (IsFailureOf (special_answers papers office.now.season
+        office.now.state) (S.left source.old) (Rose (S.faults source.old) (S.faults source.new))) }
     ensures count { S.faults source.old ≤ S.faults source.new }
     ensures steady { ¬ IsErrOf result Failure.Read → S.faults source.new ≡ S.faults source.old }
 {
     match read_whole(alloc, source, MOST_BUNDLE_BYTES) {
-        Ok(lists) => lists_answer(alloc, office, lists.as_slice()),
+        Ok(lists) => lists_answer(alloc, office, lists.as_slice(), papers),
         Err(ReadFault::TooLong) => Err(too_long(alloc)),
         Err(ReadFault::Failed) => Err(Failure::Read),
         Err(ReadFault::OutOfMemory) => Err(Failure::NoMemory),
@@ -113,17 +117,24 @@ fn special_answer<S: Source, P: Keeper>(
 }
 
 /// Returns the text of the special round over these lists.
-fn lists_answer<P: Keeper>(alloc: Global, office: &Office<P>, lists: &[u8]) -> Result<Text, Failure>
+fn lists_answer<P: Keeper>(
+    alloc: Global,
+    office: &Office<P>,
+    lists: &[u8],
+    papers: SpecialPapers,
+) -> Result<Text, Failure>
     requires { length lists.now ≤ most_bundle_bytes }
-    ensures output { IfOk result (IsSpecialOutput office.now.season office.now.state lists.now) }
+    ensures output { IfOk result
+        (IsSpecialOutput papers office.now.season office.now.state lists.now) }
     ensures failure { IfErr result
-        (IsInputFailure (special_answers office.now.season office.now.state) lists.now) }
+        (IsInputFailure (special_answers papers office.now.season office.now.state) lists.now) }
 {
     match round_of::<Brand, P>(alloc, office, lists, Blank::new(1)) {
         Ok(special) => {
             says_what_is_sound(&special.season);
             special_rounds_can_be_shown();
-            Ok(special_text(alloc, &special)?)
+            special_rounds_can_be_listed();
+            Ok(papers_text(alloc, &special, papers)?)
         }
         Err(fault) => Err(lists_failure(alloc, fault)),
     }

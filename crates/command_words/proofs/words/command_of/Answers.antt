@@ -1,4 +1,4 @@
-use Rattle.command_words.proofs.Spelling.{read_four, read_one, read_six, read_two}
+use Rattle.command_words.proofs.Spelling.{read_four, read_one, read_six, read_three, read_two}
 use Rattle.command_words.proofs.words.command_of.Goals as goal
 
 pub returns-in_default-first-clause-some : goal.returns-in_default-first-clause-some
@@ -8,6 +8,11 @@ returns-in_default-first-clause-some c =
 pub returns-in_default-second-clause-some : goal.returns-in_default-second-clause-some
 returns-in_default-second-clause-some c =
     (read_two c.args.parts c.in-Some.name c.in-Some-first.first c.read_store.result c.in-Some.is c.in-Some-first.is c.in_default-second.is c.read_store.ensures.command c.read_store.ensures.none).some
+
+pub returns-in_default-third-clause-some : goal.returns-in_default-third-clause-some
+returns-in_default-third-clause-some c =
+    (read_three c.args.parts c.in-Some.name c.in-Some-first.first c.in-Some-second.second c.read_lists.result c.in-Some.is c.in-Some-first.is c.in-Some-second.is c.in_default-third.is c.read_lists.ensures.command
+    c.read_lists.ensures.none).some
 
 pub returns-in_default-fourth-clause-some : goal.returns-in_default-fourth-clause-some
 returns-in_default-fourth-clause-some c =

@@ -35,8 +35,8 @@ returns-in-Step g c =
         kept_text = λ resumes. absurd resumes;
         differs = λ resumes. absurd resumes;
         unasked = λ store same. absurd (cc same);
-        special_lists = λ store same. absurd (cc same);
-        special_refused = λ store same. absurd (cc same);
+        special_lists = λ makes. absurd makes;
+        special_refused = λ makes. absurd makes;
       };
       blamed = answer_blames _ step_answers _ _ _ _ _ _ _ c.step_answer.result _ _ _ e.failure e.steady told c.finish.ensures.steady;
     })
@@ -56,8 +56,8 @@ returns-in-Check g c =
         kept_text = λ resumes. absurd resumes;
         differs = λ resumes. absurd resumes;
         unasked = λ store same. absurd (cc same);
-        special_lists = λ store same. absurd (cc same);
-        special_refused = λ store same. absurd (cc same);
+        special_lists = λ makes. absurd makes;
+        special_refused = λ makes. absurd makes;
       };
       blamed = answer_blames _ check_answers _ _ _ _ _ _ _ c.check_answer.result _ _ _ e.failure e.steady told c.finish-in-Check.ensures.steady;
     })
@@ -84,8 +84,8 @@ returns-in-New g c =
         kept_text = λ resumes. absurd resumes;
         differs = λ resumes. absurd resumes;
         unasked = λ other same. absurd (cc same);
-        special_lists = λ other same. absurd (cc same);
-        special_refused = λ other same. absurd (cc same);
+        special_lists = λ makes. absurd makes;
+        special_refused = λ makes. absurd makes;
       };
       blamed = serve_blames g.D.Door.faults _ _ _ _ _ _ _ _ _ c.serve_season.result.0 tt e.read_blamed.read_fault e.sink.write_fault e.keeper.keeper_fault e.doors.door_fault
           e.read_blamed.source_steady e.sink.sink_steady (no_difference _ _ e.no_difference e.keeper.keeper_early) e.doors.doors_steady e.keeper.keeper_count;
@@ -113,8 +113,8 @@ returns-in-Serve g c =
         kept_text = λ resumes tells wrote kept. e.records.kept_text tells (wrote, kept);
         differs = λ resumes tells wrote kept. e.records.differs tells (wrote, kept);
         unasked = λ other same. absurd (cc same);
-        special_lists = λ other same. absurd (cc same);
-        special_refused = λ other same. absurd (cc same);
+        special_lists = λ makes. absurd makes;
+        special_refused = λ makes. absurd makes;
       };
       blamed = serve_blames g.D.Door.faults _ _ _ _ _ _ _ _ _ c.serve_kept.result.0 tt (λ same. absurd (e.no_read_fault same)) e.sink.write_fault e.keeper.keeper_fault e.doors.door_fault
           (λ read write. refl) e.sink.sink_steady (no_read _ _ e.no_read_fault e.keeper.keeper_early) e.doors.doors_steady e.keeper.keeper_count;

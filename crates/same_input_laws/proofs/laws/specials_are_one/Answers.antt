@@ -13,4 +13,6 @@ returns c = ends.specials_are_one (record {
   enter = c.enter.ensures;
   round = c.one_round.ensures;
   answer = c.one_special_answer.ensures;
+  cutoffs = c.one_list.ensures;
+  listed = c.special_rounds_can_be_listed.ensures;
 })

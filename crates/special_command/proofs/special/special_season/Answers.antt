@@ -10,7 +10,7 @@ use Rattle.special_command.proofs.special.special_season.Goals as goal
 pub returns-in-Ok-clause-written : goal.returns-in-Ok-clause-written
 returns-in-Ok-clause-written g c =
     let o = c.in-Ok.ensures.resumed in
-    rw (← c.in-Ok.ensures.unwritten) (resumed_ends c.in-Ok.office.season c.in-Ok.office.state _ _ (g.P.Keeper.seen c.in-Ok.office.keeper).tables _ _ _ c.tell_round.result.0 o.resumed o.told
+    rw (← c.in-Ok.ensures.unwritten) (resumed_ends c.args.papers c.in-Ok.office.season c.in-Ok.office.state _ _ (g.P.Keeper.seen c.in-Ok.office.keeper).tables _ _ _ c.tell_round.result.0 o.resumed o.told
     (ap (λ k. (g.P.Keeper.seen k).tables) c.tell_round.ensures.same) c.tell_round.ensures.written)
 
 pub returns-in-Ok-clause-read_blamed : goal.returns-in-Ok-clause-read_blamed
