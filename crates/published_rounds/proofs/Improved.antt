@@ -49,7 +49,7 @@ set_tells i seekers s list there = record {
 }
 
 -- the seekers are a market where one of them seeks one programme alone
-alone_market : (rule : Rule) (MayApply : ℕ → List Person → Type 0) (well : ChoosesWell rule MayApply) (count i : ℕ) (seekers : List Seeker) (s : Seeker) (q : ProgId) → IsMarket MayApply count seekers
+pub alone_market : (rule : Rule) (MayApply : ℕ → List Person → Type 0) (well : ChoosesWell rule MayApply) (count i : ℕ) (seekers : List Seeker) (s : Seeker) (q : ProgId) → IsMarket MayApply count seekers
     → slice_get seekers i ≡ Some s → place_of s.list q.0 < length s.list → IsMarket MayApply count (slice_set seekers i (with_list s (q ∷ [])))
 alone_market rule MayApply well count i seekers s q market there wanted =
     narrows_market rule MayApply well count seekers (slice_set seekers i (with_list s (q ∷ []))) market (record {
@@ -73,7 +73,7 @@ alone_market rule MayApply well count i seekers s q market there wanted =
     })
 
 -- a fair allocation is fair still, where a seeker seeks the programme of their seat alone
-alone_fair : (rule : Rule) (MayApply : ℕ → List Person → Type 0) (well : ChoosesWell rule MayApply) (count i : ℕ) (seekers : List Seeker) (seats : List (Option Seat)) (s : Seeker) (x : Seat)
+pub alone_fair : (rule : Rule) (MayApply : ℕ → List Person → Type 0) (well : ChoosesWell rule MayApply) (count i : ℕ) (seekers : List Seeker) (seats : List (Option Seat)) (s : Seeker) (x : Seat)
     → IsMarket MayApply count seekers → IsFair rule count seekers seats → slice_get seekers i ≡ Some s → slice_get seats i ≡ Some (Some x)
     → IsFair rule count (slice_set seekers i (with_list s (x.prog ∷ []))) seats
 alone_fair rule MayApply well count i seekers seats s x market fair there has =

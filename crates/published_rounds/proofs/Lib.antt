@@ -38,3 +38,4 @@ pub mod Papers
 pub mod Special
 mod PaperVacancies
 mod ReplyLaws
+mod Newcomers

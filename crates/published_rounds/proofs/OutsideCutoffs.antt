@@ -174,7 +174,7 @@ module _ (well : ProgrammesChooseWell) (facts : SeasonFacts) (state : State) (wi
 -- ---- the laws
 
 -- the traits of each candidate are some of the six
-small_traits : (facts : SeasonFacts) (state : State) (window : ℕ) (person : Person) → IsSound facts → IsCourse facts state → IsAmong person facts.people → IsTraitSet person.traits
+pub small_traits : (facts : SeasonFacts) (state : State) (window : ℕ) (person : Person) → IsSound facts → IsCourse facts state → IsAmong person facts.people → IsTraitSet person.traits
 small_traits facts state window person sound course here =
     all_among (λ (one : Person). IsTraitSet one.traits) facts.people person (may_enter facts state window sound course).traits here
 

@@ -20,3 +20,4 @@ pub mod Order
 pub mod Registers
 pub mod Papers
 pub mod ReplyLaws
+pub mod OutsideLaws

@@ -15,6 +15,7 @@ ghost use Rattle.published_rounds.specs.BetterOff.{BetterOffIsNoWorse, NeverHurt
 ghost use Rattle.published_rounds.specs.Numbers.{RisingNumbersKeepOrder};
 ghost use Rattle.published_rounds.specs.Order.{OnlyTheOrderCounts};
 ghost use Rattle.published_rounds.specs.Registers.{MovingUpNeverHurts, MovingUpNeverHurtsInARound, TheSameOrderGivesTheSameSeats};
+ghost use Rattle.published_rounds.specs.OutsideLaws.{OutsideIsOutside};
 ghost use Rattle.published_rounds.specs.ReplyLaws.{RepliesDecide};
 ghost use Rattle.published_rounds.specs.Papers.{NoVacancyFillsInSoundPapers, SoundPapersAreJustified, SpecialRoundsAreJustified};
 
@@ -428,4 +429,15 @@ pub fn replies_decide()
     list_cutoffs::laws::one_list();
     history_laws::laws::lists_hold_choices();
     within_cutoffs_is_seated();
+}
+
+/// A candidate who sought nothing in a round and is within no line of a programme gets a seat of it by no list.
+pub fn outside_is_outside()
+    ensures { (facts : SeasonFacts) → OutsideIsOutside facts }
+{
+    history_laws::laws::orderly();
+    round_laws::laws::choose_well();
+    round_laws::laws::admit_no_fewer();
+    programme_cutoffs::laws::cutoffs_decide_admissions();
+    programme_cutoffs::laws::lines_tell_cutoffs();
 }
