@@ -24,7 +24,7 @@ LEAST_ON_AVERAGE, MOST_ON_AVERAGE = 13, 18
 VERY_SHORT, IN_A_ROW = 6, 3
 # the pages for people who are not inside yet
 COUNTED = ("README.md", "SECURITY.md", "CHANGELOG.md", "examples/README.md", *(f"docs/{it}.md" for it in
-           ("CANDIDATE", "CLERK", "COURT", "HTTP", "LAW", "JOSAA", "NOT", "RULES", "CHECKING", "TUTORIAL")))
+           ("CANDIDATE", "CLERK", "COURT", "INSTITUTE", "HTTP", "LAW", "JOSAA", "NOT", "RULES", "CHECKING", "TUTORIAL")))
 # the letter D in the place of a step, and the words that say so
 STEP_D = re.compile(r"\bstep D\b|(?:^ *|\\n)D seats \d|`D - ", re.M)
 SAYS_STEP_D = re.compile(r"\*\*[^*]*\bde-reserved\b[^*]*\*\*")
