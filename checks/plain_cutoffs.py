@@ -7,8 +7,13 @@ import collections
 import functools
 import itertools
 import math
+import os
 import re
+import subprocess
+import sys
+import tempfile
 
+from cases import SECONDS
 from plain_markets import Market, Wrong, drawn_script, may_have, replies_of
 from plain_office import STEPS, TRAITS, Season, StepList, chosen, greatest
 from plain_trials import Draw
@@ -16,6 +21,7 @@ from plain_trials import Draw
 SETS = ["".join(letter for at, letter in enumerate(TRAITS) if number >> at & 1) for number in range(64)]
 # how many seasons are drawn, and how many of them with checks/repository alone
 ALL, FEW = 300, 4
+TOOL = f"{os.path.dirname(os.path.dirname(os.path.realpath(__file__)))}/tools/cutoffs"
 
 
 # ---- a reply, and how it is read
@@ -168,6 +174,35 @@ def fault_of_season(program, tried):
     return None
 
 
+# ---- the tool that works cutoffs out of a dossier
+
+
+def compared(dossier, published):
+    """What tools/cutoffs says of published cutoffs, and its status."""
+    with tempfile.TemporaryDirectory(prefix="cutoffs-") as room:
+        for name, text in (("dossier", dossier), ("published", published)):
+            with open(f"{room}/{name}", "w", encoding="utf-8") as it:
+                it.write(text)
+        ran = subprocess.run([sys.executable, TOOL, f"{room}/dossier", f"{room}/published"], stdout=subprocess.PIPE, stderr=subprocess.STDOUT, text=True, timeout=SECONDS)
+    return ran.stdout.strip(), ran.returncode
+
+
+def fault_of_tool(program, tried):
+    """Why tools/cutoffs does not find the program's cutoffs right by its lists, or one that was changed wrong, or None."""
+    try:
+        asked = [f"list,nobody,{at},{code}" for at, code in tried.asked]
+        replies = replies_of(program, tried.text, [*tried.rows, *asked])
+    except Wrong as why:
+        return f"{tried.label}: {why}"
+    dossier = f"{tried.text}[requests]\n[published]\n{replies}"
+    said, status = compared(dossier, replies)
+    if status:
+        return f"{tried.label}: tools/cutoffs ended with status {status}: {said}"
+    spoiled = re.sub(r"^(cutoffs .*\n\w+ \S+ )(?:\d+|any)$", r"\g<1>77", replies, count=1, flags=re.M)
+    said, status = compared(dossier, spoiled)
+    return None if spoiled == replies or status == 10 else f"{tried.label}: tools/cutoffs ended with status {status} on a wrong cutoff: {said}"
+
+
 @functools.lru_cache(maxsize=None)
 def drawn_cutoffs(count):
     draw = Draw(7)
@@ -218,3 +253,4 @@ def trials(program, is_long):
     yield functools.partial(not_found, drawn)
     yield from (functools.partial(fault_of_largest, program, it) for it in (TRAITS, "W"))
     yield from (functools.partial(fault_of_season, program, it) for it in drawn)
+    yield from (functools.partial(fault_of_tool, program, it) for it in drawn)
