@@ -1,10 +1,12 @@
 """What the documents name and link to: the crates, calls, clauses, laws, edits, files and parts of documents that have to exist. checks/repository runs it.
 
 It works on the checkout in the current folder."""
+import collections
 import functools
 import os
 import re
 import subprocess
+from typing import List
 
 MOST_ANSWERS = 14
 SPAN = re.compile(r"`([^`\n]+)`")
@@ -357,9 +359,41 @@ def costs():
     return faults
 
 
+def tests_in(crate: str) -> int:
+    """Returns how many tests a crate has."""
+    return sum(text_of(it).count("#[test]") for it in files_below(f"crates/{crate}/src"))
+
+
+def tested() -> List[str]:
+    """Holds docs/promises/tested.md to how many cases, examples, damaged scripts and tests there are; "some N cases" may be a tenth away."""
+    # these read cases/ or run a plain office, which no other part of this module needs
+    import cases
+    import plain_scripts
+    text = text_of("docs/promises/tested.md")
+    count = collections.Counter(os.path.basename(it.label.partition(":")[0]) for it in cases.read("cases")[0])
+    folders = sum(os.path.isdir(f"examples/{it}") for it in os.listdir("examples"))
+    wanted = {
+        r"`cases/counterexamples\.txt` \| (\d+)": count["counterexamples.txt"],
+        r"`cases/scripts\.txt` \| (\d+)": count["scripts.txt"],
+        r"`cases/stores\.txt` \| of (\d+)": count["stores.txt"],
+        r"cases and (\d+) folders of examples": folders,
+        r" of ([\d,]+): a script of all": len([*plain_scripts.damaged_scripts()]),
+    }
+    found = {pattern: [int(it.replace(",", "")) for it in re.findall(pattern, text)] for pattern in wanted}
+    wrong = [f"docs/promises/tested.md: {pattern} is {found[pattern]}, and {number} is so" for pattern, number in wanted.items() if {number} != set(found[pattern])]
+    some = re.search(r"some (\d+) cases", text)
+    if not some or abs(int(some[1]) - sum(count.values())) > sum(count.values()) / 10:
+        wrong.append(f"docs/promises/tested.md: there are {sum(count.values())} cases")
+    told = collections.Counter()
+    for crate, number in re.findall(r"^\| `(\w+)` \| (\d+) \|", text, re.M):
+        told[crate] += int(number)
+    trials = [it for it in crates() if it.endswith("_trials")]
+    return wrong + [f"docs/promises/tested.md: {it} has {tests_in(it)} tests, and not {told[it]}" for it in trials if tests_in(it) != told[it]]
+
+
 def faults():
     """What the documents name or link to and is not there, and figures that are not so."""
     found = [it for path in OF_NAMES for it in names_of(path)] + promises()
     found += [it for path in markdown() if path not in OF_NAMES and not path.startswith("docs/promises/") for it in names_like_code(path)]
     found += [it for path in markdown() for it in [*paths_of(path), *no_clauses(path)]]
-    return found + layers() + longest_chain() + minutes() + costs()
+    return found + layers() + longest_chain() + minutes() + costs() + tested()
