@@ -177,14 +177,21 @@ def fault_of_season(program, tried):
 # ---- the tool that works cutoffs out of a dossier
 
 
-def compared(dossier, published):
-    """What tools/cutoffs says of published cutoffs, and its status."""
+def compared(dossier, published, name="published"):
+    """What tools/cutoffs says of a file of published cutoffs, and its status."""
     with tempfile.TemporaryDirectory(prefix="cutoffs-") as room:
-        for name, text in (("dossier", dossier), ("published", published)):
-            with open(f"{room}/{name}", "w", encoding="utf-8") as it:
+        for file, text in (("dossier", dossier), (name, published)):
+            with open(f"{room}/{file}", "w", encoding="utf-8") as it:
                 it.write(text)
-        ran = subprocess.run([sys.executable, TOOL, f"{room}/dossier", f"{room}/published"], stdout=subprocess.PIPE, stderr=subprocess.STDOUT, text=True, timeout=SECONDS)
+        ran = subprocess.run([sys.executable, TOOL, f"{room}/dossier", f"{room}/{name}"], stdout=subprocess.PIPE, stderr=subprocess.STDOUT, text=True, timeout=SECONDS)
     return ran.stdout.strip(), ran.returncode
+
+
+def table_of_round(replies, number, codes):
+    """The table of a round's cutoffs as deploy/papers writes it."""
+    rows = [f"{code},I1,{step},{letters or '-'},{'any' if last == math.inf else last}\n" for code in codes
+            for step, lines in lines_in(replies, number, code).items() for letters, last in lines]
+    return "programme,institute,step,traits,place\n" + "".join(rows)
 
 
 def fault_of_tool(program, tried):
@@ -195,9 +202,11 @@ def fault_of_tool(program, tried):
     except Wrong as why:
         return f"{tried.label}: {why}"
     dossier = f"{tried.text}[requests]\n[published]\n{replies}"
-    said, status = compared(dossier, replies)
-    if status:
-        return f"{tried.label}: tools/cutoffs ended with status {status}: {said}"
+    first = [code for at, code in tried.asked if at == 1]
+    for given in ((replies,), *([(table_of_round(replies, 1, first), "cutoffs-1.csv")] if first else [])):
+        said, status = compared(dossier, *given)
+        if status:
+            return f"{tried.label}: tools/cutoffs ended with status {status}: {said}"
     spoiled = re.sub(r"^(cutoffs .*\n\w+ \S+ )(?:\d+|any)$", r"\g<1>77", replies, count=1, flags=re.M)
     said, status = compared(dossier, spoiled)
     return None if spoiled == replies or status == 10 else f"{tried.label}: tools/cutoffs ended with status {status} on a wrong cutoff: {said}"
