@@ -14,13 +14,15 @@ import sys
 import tempfile
 
 from cases import SECONDS
-from plain_markets import Market, Wrong, drawn_script, may_have, replies_of
+from plain_markets import Market, Wrong, drawn_script, may_have, replies_of, seats_in
 from plain_office import STEPS, TRAITS, Season, StepList, chosen, greatest
 from plain_trials import Draw
 
 SETS = ["".join(letter for at, letter in enumerate(TRAITS) if number >> at & 1) for number in range(64)]
 # how many seasons are drawn, and how many of them with checks/repository alone
 ALL, FEW = 300, 4
+# and how many rounds with a candidate who may join them
+ALL_JOINED, FEW_JOINED = 1000, 20
 TOOL = f"{os.path.dirname(os.path.dirname(os.path.realpath(__file__)))}/tools/cutoffs"
 
 
@@ -230,6 +232,45 @@ def not_found(drawn):
     return f"drawn cutoffs: no season shows that this is wrong: {', '.join(missed)}" if missed else None
 
 
+# ---- a candidate who did not take part
+
+
+class Joined:
+    """A drawn round in which a candidate hands in no list, or a list of one programme."""
+
+    def __init__(self, draw, number):
+        self.label, self.market = f"cutoffs, newcomer {number}", Market(draw)
+        self.cand = self.market.candidate
+        self.codes = self.market.listable[self.cand]
+        self.others = {cand: own for cand, own in self.market.choices.items() if cand != self.cand}
+
+    def with_list(self, own):
+        return self.market.text({**self.others, self.cand: own})
+
+
+def fault_of_newcomer(program, joined):
+    """Why somebody who is within no cutoff of a programme would have had its seat by the list of it alone, and so by some list, or None.
+
+    The converse is false: cases/counterexamples.txt has somebody who is within and would have had no seat."""
+    try:
+        replies = replies_of(program, joined.with_list([]), ["cut,clerk,0", *(f"cutoffs,nobody,1,{it}" for it in joined.codes)])
+        season = Season(joined.with_list([]))
+        for code in joined.codes:
+            met = step_met(season, code, lines_in(replies, 1, code), season.person(joined.cand))
+            seat = seats_in(replies_of(program, joined.with_list([code]), ["cut,clerk,0"])).get(joined.cand)
+            if seat and not met:
+                raise Wrong(f"{joined.cand} is within no cutoff of {code}, and has its seat by a list of it alone")
+    except Wrong as why:
+        return f"{joined.label}: {why}"
+    return None
+
+
+@functools.lru_cache(maxsize=None)
+def drawn_newcomers(count):
+    draw = Draw(5)
+    return [Joined(draw, number) for number in range(count)]
+
+
 # ---- a step with as many as there can be
 
 
@@ -263,3 +304,4 @@ def trials(program, is_long):
     yield from (functools.partial(fault_of_largest, program, it) for it in (TRAITS, "W"))
     yield from (functools.partial(fault_of_season, program, it) for it in drawn)
     yield from (functools.partial(fault_of_tool, program, it) for it in drawn)
+    yield from (functools.partial(fault_of_newcomer, program, it) for it in drawn_newcomers(ALL_JOINED if is_long else FEW_JOINED))
