@@ -545,6 +545,7 @@ def install(room, program):
         *(f"etc/systemd/system/{it}" for it in UNITS),
         *(f"usr/lib/nachodune/{it}" for it in ("office", "stores.py", *SCRIPTS)),
         "etc/systemd/system/nachodune-check.service.d/second.conf",
+        "etc/systemd/system/nachodune-watch.service.d/site.conf",
         "usr/share/doc/nachodune/RUNNING.md",
         *(f"usr/share/doc/nachodune/docs/{it}.md" for it in ("RULES", "FORMATS", "CHECKING")),
         *(f"usr/lib/nachodune/tools/{it}" for it in os.listdir(f"{TOP}/tools") if it != "README.md" and it != "__pycache__"),
@@ -558,6 +559,24 @@ def install(room, program):
     for words in (["HOST=a"], ["HOST=a b", *more], ["HOST=a;b", *more], ["HOST=", *more], ["HOST=a", "OTHER=y", *more]):
         ran = subprocess.run([f"{DEPLOY}/fill", f"{room}/refused", *words], capture_output=True)
         tally.holds(ran.returncode == 2 and not os.path.exists(f"{room}/refused"), f"fill refuses {words}", f"{ran}")
+
+
+@part("install under every umask", rooms=None)
+def umasks(room, program):
+    """Everybody may read what nginx serves and what units run, also from a checkout that only its owner may read."""
+    top = checkout(room, program)
+    subprocess.run(["chmod", "-R", "go-rwx", top], check=True)
+    words = [f"PROGRAM={program}", f"HOST={HOST}", "CERT=/etc/ssl/office.pem", "KEY=/etc/ssl/office.key", "CLERKS=10.1.0.0/16", "SECOND=/srv/copies", "GROUP=haproxy"]
+    seen = {}
+    for mask in (0o022, 0o027, 0o077):
+        to = f"{room}/to-{mask:03o}"
+        subprocess.run([f"{top}/deploy/install", f"TO={to}", *words], check=True, umask=mask, stdout=subprocess.DEVNULL)
+        seen[mask] = {os.path.relpath(f"{at}/{it}", to): os.stat(f"{at}/{it}").st_mode & 0o7777 for at, folders, names in os.walk(to) for it in (*folders, *names)}
+    tally.holds(seen[0o022] == seen[0o027] == seen[0o077], "install gives the same modes under every umask", f"{[it for it in seen[0o022] if seen[0o022][it] != seen[0o077].get(it)][:5]}")
+    closed = [f"{it} {mode:o}" for it, mode in seen[0o077].items() if mode not in (0o755, 0o644)]
+    tally.holds(not closed, "install leaves no file that others cannot read", f"{closed[:5]}")
+    door = text_of(f"{room}/to-077/etc/systemd/system/nachodune-door.socket.d/group.conf")
+    tally.same(door, "[Socket]\nSocketGroup=haproxy\n", "GROUP opens the door to another group")
 
 
 @part("nginx takes its files", ["nginx", "openssl"])
@@ -600,9 +619,10 @@ answer() { ask -H 'X-Office-Token: tU1vW3xY5zA7' -d "{\"cand\":3,\"window\":1,\"
 age() { find /var/lib/nachodune/copies -name of.txt -exec touch -d '1 hour ago' {} +; }
 as() { setpriv --reuid=nachodune --regid=nachodune --clear-groups "$@"; }
 kept=/var/lib/nachodune/season.db lib=/usr/lib/nachodune
-mkdir -p /etc/nachodune; printf '#!/bin/sh\necho "$1: $2" >> /alerted\n' > /etc/nachodune/alert; chmod 755 /etc/nachodune/alert
+chmod -R go-rwx /top; umask 077; mkdir -p /etc/nachodune; printf '#!/bin/sh\necho "$1: $2" >> /alerted\n' > /etc/nachodune/alert; chmod 755 /etc/nachodune/alert
 /top/deploy/install PROGRAM=/program HOST=office.example CERT=/etc/office.pem KEY=/etc/office.key CLERKS=127.0.0.1 SECOND=/second > /install.out 2>&1
 say installed $?
+umask 022
 say connections "$(grep -c worker_connections /install.out)"
 systemctl daemon-reload
 as $lib/begin $kept < /bundle.txt
