@@ -152,7 +152,7 @@ def tokens():
             it.write("id,category,traits,m1,m2,E-Mail\n1,GEN,-,1,,a@example\n2,OBC,W,2,1,b@example\n3,SC,-,3R,,\n")
         first, _, _ = called("season", [room])
         again, said, _ = called("season", [room])
-        with open(f"{room}/tokens.csv", encoding="utf-8", newline="") as it:
+        with open(f"{room}/tokens.csv", encoding="utf-8-sig", newline="") as it:
             rows = [*csv.reader(it)]
         mode = stat.S_IMODE(os.stat(f"{room}/tokens.csv").st_mode)
         with open(f"{room}/other.csv", "w", encoding="utf-8") as it:
@@ -163,7 +163,7 @@ def tokens():
         yield "tools/season: a second call makes other tokens"
     if mode != 0o600 or rows[0] != ["candidate", "token", "E-Mail"] or rows[2][2] != "a@example":
         yield f"tools/season: the file of tokens has mode {mode:o} and the rows {rows[:1]}"
-    if len(set(made)) != 3 or not all(re.fullmatch("[0-9a-f]{32}", it) and it.encode() in first for it in made):
+    if len(set(made)) != 3 or not all(re.fullmatch("[a-f][0-9a-f]{31}", it) and it.encode() in first for it in made):
         yield "tools/season: a token is not 32 characters by chance"
     if other[2] != 3 or other[0]:
         yield "tools/season: it takes a file for tokens that has none"

@@ -1,4 +1,4 @@
-"""Reads the files that a spreadsheet writes, and collects everything that is wrong or unusual in them; tools/season uses it."""
+"""Reads the files that a spreadsheet writes, and collects everything that is wrong or unusual in them; tools/season and deploy/announce use it."""
 import collections
 import csv
 import io
@@ -145,7 +145,7 @@ class Table:
 
 
 def text_of(file, data, findings):
-    """Returns the text of a file, or None if it is none: UTF-8, UTF-16 with or without its mark, or letters of one byte."""
+    """Returns the text of a file, or None if it is none: UTF-8, UTF-16 with or without its mark, or Windows-1252."""
     book = next((name for mark, name in BOOKS.items() if data.startswith(mark)), None)
     if book:
         findings.wrong_form(file, f"this is {book} and no CSV: save it as CSV UTF-8 in the spreadsheet program")
@@ -161,8 +161,8 @@ def text_of(file, data, findings):
         if wide:
             findings.wrong_form(file, "it begins as UTF-16 and has no whole letters: save it anew as CSV UTF-8")
             return None
-    findings.remarks.append(f"{file}: it is not UTF-8; letters outside of ASCII are read one byte a letter, and only columns that are left out may have them")
-    return data.decode("latin-1")
+    findings.remarks.append(f"{file}: it is not UTF-8, so it is read as Windows-1252; letters that this encoding lacks, as those of Hindi, are lost in it: save it as CSV UTF-8")
+    return data.decode("cp1252", errors="replace")
 
 
 def records(text, delimiter):
@@ -206,6 +206,9 @@ def read(folder, file, known, findings):
     found, bad = records(text, delimiter)
     if bad:
         findings.wrong_form(file, f"row {bad}: a quote is not closed, or something follows a closing quote; the rows after it were not read")
+    lost = [number for number, fields in enumerate(found, 1) if any("??" in it for it in fields)]
+    if lost:
+        findings.remarks.append(f"{file}: {len(lost)} row{'s have' if len(lost) > 1 else ' has'} `??`, first row {lost[0]}: a program that lacks letters writes `?` in their place, so look at the source")
     return [(number, fields) for number, fields in enumerate(found, 1) if any(map(stripped, fields))]
 
 
