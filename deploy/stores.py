@@ -1,15 +1,35 @@
 """How the scripts read a copy of a store: from a copy of the copy, so that the copy stays byte by byte what it was."""
 import contextlib
 import os
+import re
 import shutil
 import sqlite3
 import tempfile
 
 
+COPY = re.compile(r"\d{8}T\d{6}\.\d+Z")
+MADE = re.compile(r"number (\d+)\n((?:season\.db(?:-wal)? \d+\n)+)")
+
+
+def made_of(copy):
+    """Returns the number of a copy in the order of making, and the sizes of its files; 0 and None for a copy from before there were numbers."""
+    try:
+        with open(f"{copy}/made.txt", encoding="ascii") as it:
+            told = MADE.fullmatch(it.read())
+    except (OSError, UnicodeError):
+        told = None
+    return (int(told[1]), {line.split()[0]: int(line.split()[1]) for line in told[2].splitlines()}) if told else (0, None)
+
+
+def copies(folder):
+    """Returns the paths of the copies, the one that was made first in front. Names have the hour, and clocks are set back, so numbers come before names."""
+    there = [it for it in os.listdir(folder) if COPY.fullmatch(it)] if os.path.isdir(folder) else []
+    return [f"{folder}/{it}" for it in sorted(there, key=lambda it: (made_of(f"{folder}/{it}")[0], it))]
+
+
 def newest_copy(path):
-    """The store below a path: in the newest copy of a folder of copies, in a copy, or the path itself."""
-    there = sorted(it for it in os.listdir(path) if it.endswith("Z")) if os.path.isdir(path) else []
-    path = f"{path}/{there[-1]}" if there else path
+    """Returns the store below a path: in the newest copy of a folder of copies, in a copy, or the path itself."""
+    path = next(iter(copies(path)[::-1]), path)
     return f"{path}/season.db" if os.path.isdir(path) else path
 
 
