@@ -15,7 +15,7 @@ import re
 import sys
 
 import documents
-from documents import SPAN, text_of
+from documents import text_of
 
 WIDEST_LINE = 160
 MOST_WORDS = 40

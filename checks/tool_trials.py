@@ -7,6 +7,7 @@ import concurrent.futures
 import csv
 import functools
 import importlib.machinery
+import importlib.util
 import io
 import os
 import re
@@ -30,7 +31,9 @@ from faults import FINDERS
 
 EVERY = "every season"
 # tools/explain as a module: it is asked some hundred times
-EXPLAIN = importlib.machinery.SourceFileLoader("explain", f"{TOP}/tools/explain").load_module()
+LOADER = importlib.machinery.SourceFileLoader("explain", f"{TOP}/tools/explain")
+EXPLAIN = importlib.util.module_from_spec(importlib.util.spec_from_loader("explain", LOADER))
+LOADER.exec_module(EXPLAIN)
 
 
 def text_of(name):
