@@ -1,0 +1,221 @@
+"""The parts of checks/deploy that give scripts what a spreadsheet program or a wrong name makes of a file: each says what to do, and none ends with a traceback."""
+import csv
+import hashlib
+import io
+import os
+import shutil
+import sqlite3
+import subprocess
+
+from deployed import bundle_of, part, tally
+from deployed_files import script, strong
+from front import SYSTEM, found, text_of
+from served import TOP
+
+NAMES = "programme,A,भौतिकी\r\ninstitute,I1,\"IIT, Delhi\"\r\nprogramme,B,José\r\n"
+# files that are none of what is wanted, whatever that is
+JUNK = {
+    "workbook.xlsx": b"PK\x03\x04" + bytes(200),
+    "old.xls": b"\xd0\xcf\x11\xe0" + bytes(200),
+    "empty.csv": b"",
+    "blank.csv": b"\r\n\r\n",
+    "half-utf16.csv": b"\xff\xfe\x00",
+    "random": bytes((it * 7919 + it // 3) % 256 for it in range(3000)),
+    "head.db": b"SQLite format 3\0" + bytes(range(256)) * 8,
+    "page.html": b"<!doctype html><p>404",
+}
+
+
+def put_junk(room):
+    for name, data in JUNK.items():
+        with open(f"{room}/{name}", "wb") as it:
+            it.write(data)
+    os.makedirs(f"{room}/folder", exist_ok=True)
+    return [f"{room}/{it}" for it in (*JUNK, "folder", "missing.csv", "no/such.csv")]
+
+
+def says(label, came, statuses, *words):
+    status, wrote = came
+    right = status in statuses and "Traceback" not in wrote and wrote.strip() and all(it in wrote for it in words)
+    tally.holds(right, label, f"{status} {wrote[-400:]}")
+
+
+@part("announce over spoiled files")
+def announce_spoiled(room, program):
+    os.makedirs(f"{room}/papers")
+    for label, data, wanted in (
+        ("UTF-8 with a mark", NAMES.encode("utf-8-sig"), "भौतिकी"),
+        ("UTF-16", NAMES.encode("utf-16"), "भौतिकी"),
+        ("UTF-16 without a mark", NAMES.encode("utf-16-le"), "भौतिकी"),
+        ("semicolons", NAMES.replace(",A,", ";A;").replace(",B,", ";B;").replace(",I1,", ";I1;").encode(), "भौतिकी"),
+        ("cp1252", "programme,B,José\r\n".encode("cp1252"), "José"),
+    ):
+        with open(f"{room}/names.csv", "wb") as it:
+            it.write(data)
+        says(f"announce names takes {label}", script("announce", [f"{room}/papers", "names", f"{room}/names.csv"], program), (0,), wanted)
+        tally.holds(wanted in text_of(f"{room}/papers/names.json"), f"announce names keeps the letters of {label}")
+    before = text_of(f"{room}/papers/names.json")
+    for path in put_junk(room):
+        says(f"announce names refuses {os.path.basename(path)}", script("announce", [f"{room}/papers", "names", path], program), (1, 3), "nothing was written")
+    with open(f"{room}/lost.csv", "w", encoding="utf-8") as it:
+        it.write("programme,A,??????\n")
+    says("announce names refuses a name whose letters are lost", script("announce", [f"{room}/papers", "names", f"{room}/lost.csv"], program), (3,), "lost letters")
+    says("announce into no folder", script("announce", [f"{room}/none", "notice", "x"], program), (1,), "nothing was written")
+    tally.same(text_of(f"{room}/papers/names.json"), before, "announce leaves what is there where it refuses")
+
+
+@part("begin and counts over spoiled files")
+def others_spoiled(room, program):
+    os.makedirs(f"{room}/stores")
+    store = f"{room}/stores/season.db"
+    for path in put_junk(room):
+        name = os.path.basename(path)
+        if os.path.isfile(path):
+            with open(path, "rb") as it:
+                says(f"begin refuses {name} as a bundle", script("begin", [store], program, it.read()), (3,), "begin: ")
+        says(f"counts refuses {name}", script("counts", [path], program), (1, 3), "counts: ")
+        says(f"papers refuses {name}", script("papers", ["--mock", path, f"{room}/mock"], program), (1, 3), "papers: ")
+    given, _ = strong(bundle_of())
+    for encoding in ("utf-16", "utf-16-le", "utf-32"):
+        says(f"begin refuses a bundle in {encoding}", script("begin", [store], program, given.decode().encode(encoding)), (3,), "begin: ")
+    says("begin without a folder", script("begin", [f"{room}/none/season.db"], program, given), (1,), "is not there")
+    says("begin without a program", script("begin", [store], f"{room}/none", given), (1,), "No such file")
+    tally.same(os.listdir(f"{room}/stores"), [], "begin makes nothing where it refuses")
+    odd_stores(room, program, given)
+
+
+def odd_stores(room, program, given):
+    """Stores that are there already: what an interrupted begin left is taken, and everything else is left as it is."""
+    store = f"{room}/stores/season.db"
+    for label, files, is_taken in (
+        ("an empty file", {"": b""}, True),
+        ("an empty file with the first byte of a log", {"": b"", "-wal": b"\0"}, True),
+        ("an empty file with the head of a log", {"": b"", "-wal": bytes(41)}, True),
+        ("a text", {"": b"hello\n"}, False),
+        ("another database", {"": None}, False),
+    ):
+        for end, data in files.items():
+            if data is None:
+                base = sqlite3.connect(store)
+                base.execute("CREATE TABLE phase(x)")
+                base.commit()
+                base.close()
+            else:
+                with open(store + end, "wb") as it:
+                    it.write(data)
+        held = {it: open(f"{room}/stores/{it}", "rb").read() for it in os.listdir(f"{room}/stores")}
+        status, wrote = script("begin", [store], program, given)
+        if is_taken:
+            told = script("begin", [store], program, given)
+            tally.holds(status == 0 and told[0] == 3 and "holds a season already" in told[1], f"begin takes up {label}", f"{status} {wrote} {told}")
+        else:
+            now = {it: open(f"{room}/stores/{it}", "rb").read() for it in os.listdir(f"{room}/stores")}
+            tally.holds(status == 3 and "begun once" not in wrote and now == held, f"begin leaves {label}", f"{status} {wrote}")
+        for it in os.listdir(f"{room}/stores"):
+            os.remove(f"{room}/stores/{it}")
+
+
+@part("begin refuses more weak tokens")
+def more_weak(room, program):
+    given, tokens = strong(bundle_of())
+    for label, token in (
+        ("md5sum of the number with a line end", hashlib.md5(b"1\n").hexdigest()),
+        ("the SHA-512 of the number", hashlib.sha512(b"1").hexdigest()[:32]),
+        ("the SHA-224 of the number with zeros", hashlib.sha224(b"000001").hexdigest()[:32]),
+        ("a date of birth twice", "17Feb200617Feb2006"),
+        ("a date of birth four times", "17022006" * 4),
+    ):
+        came = script("begin", [f"{room}/weak.db"], program, given.replace(tokens[0].encode(), token.encode()))
+        tally.holds(came[0] == 3 and "easy to guess" in came[1], f"begin refuses weak tokens: {label}", f"{came}")
+
+
+# ---- tokens.csv
+
+REGISTER = "id,category,traits,m1,Name\n" + "".join(f"{it},GEN,-,{it},{name}\n" for it, name in enumerate(("आशा कुमारी", "José Ã", "ಅನಿತಾ", "زینب", '"Li, Wei"'), 1))
+
+
+def put_season(room):
+    for name, text in (
+        ("register.csv", REGISTER),
+        ("matrix.csv", "programme,institute,list,step,seats\nA,I1,1,OPEN,1\n"),
+        ("choices.csv", "candidate,preference,programme\n1,1,A\n"),
+        ("season.csv", "rounds,2\n"),
+    ):
+        with open(f"{room}/{name}", "w", encoding="utf-8") as it:
+            it.write(text)
+
+
+def season(room, *words):
+    ran = subprocess.run([f"{TOP}/tools/season", *words, room], capture_output=True, text=True)
+    return ran.returncode, ran.stdout, ran.stderr
+
+
+@part("tokens.csv in other encodings")
+def tokens_saved(room, program):
+    put_season(room)
+    _, bundle, _ = season(room)
+    with open(f"{room}/tokens.csv", "rb") as it:
+        data = it.read()
+    tally.holds(data.startswith(b"\xef\xbb\xbf") and "आशा कुमारी".encode() in data, "tokens.csv begins with the mark of UTF-8")
+    text = data.decode("utf-8-sig")
+    for label, saved in (
+        ("UTF-16", text.encode("utf-16")),
+        ("UTF-8 without a mark", text.encode()),
+        ("cp1252 with semicolons", text.replace(",", ";").replace('"Li; Wei"', "Li Wei").encode("cp1252", errors="replace")),
+        ("tabs", text.replace(",", "\t").replace('"Li\t Wei"', "Li Wei").encode("utf-16")),
+        ("rows in another order, with blanks", ("\r\n".join([text.splitlines()[0], "", *(it.replace(",", " , ", 1) for it in text.splitlines()[:0:-1])]) + "\r\n").encode()),
+    ):
+        with open(f"{room}/tokens.csv", "wb") as it:
+            it.write(saved)
+        status, again, said = season(room)
+        tally.holds(status == 0 and again == bundle, f"tokens.csv as {label} gives the same tokens", said[-300:])
+        tally.holds(open(f"{room}/tokens.csv", "rb").read() == data, f"tokens.csv has its letters again after {label}")
+    refused_tokens(room, text)
+
+
+def refused_tokens(room, text):
+    """Files of tokens that cannot be read: nothing is written, and nobody is told to throw tokens away."""
+    rows = list(csv.reader(io.StringIO(text)))
+    spoiled = {
+        "a number in place of a token": text.replace(rows[2][1], "1.2E+31"),
+        "a token twice": text.replace(rows[2][1], rows[3][1]),
+        "no header": text.partition("\n")[2],
+        "no column of tokens": text.replace("token", "mark", 1),
+    }
+    junk = {os.path.basename(it): it for it in put_junk(room) if os.path.isfile(it)}
+    for label, given in (*((it, data.encode()) for it, data in spoiled.items()), *((it, JUNK[it]) for it in junk)):
+        with open(f"{room}/tokens.csv", "wb") as it:
+            it.write(given)
+        status, wrote, said = season(room)
+        right = status == 3 and not wrote and "may be sent already" in said and "Traceback" not in said and not any(row[1] in said for row in rows[1:])
+        tally.holds(right, f"tokens.csv with {label} is refused", f"{status} {said[-300:]}")
+        tally.holds(open(f"{room}/tokens.csv", "rb").read() == given, f"tokens.csv with {label} is left as it is")
+
+
+def saved_by(office, room, source, to, *words):
+    """Saves a file by the spreadsheet program LibreOffice, in a profile of its own."""
+    how = [office, "--headless", f"-env:UserInstallation=file://{room}/profile", *words, "--convert-to", to, "--outdir", f"{room}/saved", source]
+    subprocess.run(how, check=True, capture_output=True, timeout=180, env={**SYSTEM, "HOME": room})
+
+
+@part("tokens.csv through LibreOffice and back", [] if found("soffice") else ["soffice"], rooms=None)
+def tokens_through(room, program):
+    put_season(room)
+    _, bundle, _ = season(room)
+    data = text_of(f"{room}/tokens.csv")
+    csv_as = {"UTF-8": "csv:Text - txt - csv (StarCalc):44,34,76,1", "UTF-8 with semicolons": "csv:Text - txt - csv (StarCalc):59,34,76,1", "Windows-1252": "csv:Text - txt - csv (StarCalc):44,34,1,1"}
+    shutil.copy(f"{room}/tokens.csv", f"{room}/first.csv")
+    # as a double click opens it: the program guesses the encoding by the mark, and each field by its form
+    saved_by(found("soffice"), room, f"{room}/first.csv", "xlsx", "--infilter=CSV:44,34,UTF8,1")
+    for label, form in csv_as.items():
+        for source in (f"{room}/first.csv", f"{room}/saved/first.xlsx"):
+            words = ["--infilter=CSV:44,34,UTF8,1"] if source.endswith(".csv") else []
+            saved_by(found("soffice"), room, source, form, *words)
+            shutil.copy(f"{room}/saved/first.csv", f"{room}/tokens.csv")
+            status, again, said = season(room)
+            name = f"{os.path.splitext(source)[1][1:]}, saved as {label}"
+            tally.holds(status == 0 and again == bundle, f"tokens.csv through LibreOffice by {name}: the same tokens", said[-300:])
+            tally.same(text_of(f"{room}/tokens.csv"), data, f"tokens.csv through LibreOffice by {name}: the same names")
+    shutil.copy(f"{room}/saved/first.xlsx", f"{room}/tokens.csv")
+    status, _, said = season(room)
+    tally.holds(status == 3 and "save it as CSV UTF-8" in said and "may be sent already" in said, "a workbook in place of tokens.csv", said[-300:])
