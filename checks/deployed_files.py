@@ -18,7 +18,7 @@ from unittest import mock
 
 from cases import READS_STORES
 from deployed import CLERK, CUT, body, bundle_of, directly, part, tally, tokens_of
-from front import DEPLOY, HOST, SYSTEM, Front, Office, called, certificate, found, read_reply, request, text_of, until
+from front import DEPLOY, HOST, SYSTEM, Front, Office, called, certificate, expired, found, read_reply, request, text_of, until
 from plain_office import Office as PlainOffice
 from plain_office import Season
 from served import TOP, free_port, kept_rows, listeners
@@ -383,10 +383,14 @@ def followed(room, program, told):
         child = subprocess.Popen(words, stdout=subprocess.DEVNULL, stderr=subprocess.DEVNULL)
         try:
             until(lambda: os.path.exists(f"{folder}/programmes.json"), "the papers before the first cut")
-            tally.same(sorted(os.listdir(folder)), ["programmes.json", "programmes.json.gz"], "papers before the first cut")
+            there = sorted(it for it in os.listdir(folder) if not it.endswith(".gz"))
+            tally.same(there, ["index.html", "names.json", "notice.txt", "programmes.json", "window.json"], "papers before the first cut")
+            tally.holds("No round is published yet" in text_of(f"{folder}/index.html"), "the index before the first cut")
             directly(office, "POST", "/v1/cut", CLERK, CUT)
             until(lambda: '"published": 1' in text_of(f"{folder}/programmes.json"), "the papers after a cut")
             tally.same(text_of(f"{folder}/round-1.txt").splitlines()[0], "round 1 seated 4", "the papers follow a cut without a restart")
+            links = re.findall(r'href="([^"/]+)"', text_of(f"{folder}/index.html"))
+            tally.holds({"round-1.txt", "lists-1.txt"} <= set(links) and all(os.path.exists(f"{folder}/{it}") for it in links), "the index links to what is there", f"{links}")
             office.kill()
             for end in ("", "-wal"):
                 os.remove(f"{room}/season.db{end}")
@@ -464,7 +468,7 @@ def announced(room, program):
         tally.holds(status == 3 and "nothing was written" in wrote, f"announce refuses {label}", f"{status} {wrote}")
     tally.holds(all(text_of(f"{room}/{it}") == text for it, text in before.items()), "announce leaves what is there where it refuses")
     status, wrote = script("announce", [room, "remove", "window.json"], program)
-    tally.holds(status == 0 and not os.path.exists(f"{room}/window.json"), "announce removes a paper", f"{status} {wrote}")
+    tally.holds(status == 0 and text_of(f"{room}/window.json") == "{}", "announce empties a paper", f"{status} {wrote}")
     tally.same(script("announce", [room, "remove", "names.csv"], program)[0], 2, "announce removes only papers")
 
 
@@ -516,7 +520,7 @@ def quick_sleep(room):
 # ---- what is installed
 
 UNITS = tuple(sorted(it for it in os.listdir(DEPLOY) if it.startswith("nachodune") and it.endswith((".service", ".socket", ".timer", ".path"))))
-SCRIPTS = ("alert", "announce", "begin", "counts", "empty-texts", "go-back", "keep-copy", "papers", "pause", "watch")
+SCRIPTS = ("alert", "announce", "begin", "counts", "empty-texts", "go-back", "keep-copy", "papers", "pause", "upgraded", "watch")
 
 
 def checkout(room, program):
@@ -539,8 +543,8 @@ def install(room, program):
     to = installed(room, program)
     there = [os.path.relpath(f"{at}/{it}", to) for at, _, names in os.walk(to) for it in names]
     wanted = {
-        *(f"etc/nginx/nachodune/{it}.conf" for it in ("nachodune", "headers", "way", "office", "texts", "page", "clerks", "clerks-geo")),
-        *(f"etc/nginx/nachodune/pages/{it}.html" for it in (403, 404, 429)),
+        *(f"etc/nginx/nachodune/{it}.conf" for it in ("nachodune", "headers", "way", "office", "texts", "page", "clerks", "clerks-geo", "large-geo", "logrotate")),
+        *(f"etc/nginx/nachodune/pages/{it}.html" for it in (403, 404, 429, "folder")),
         "etc/nginx/conf.d/nachodune.conf",
         *(f"etc/systemd/system/{it}" for it in UNITS),
         *(f"usr/lib/nachodune/{it}" for it in ("office", "stores.py", *SCRIPTS)),
@@ -600,11 +604,13 @@ def units(room, program):
     for name in (it for it in UNITS if "@" not in it):
         ran = subprocess.run([found("systemd-analyze"), "verify", f"{room}/units/{name}"], capture_output=True, text=True, env=SYSTEM)
         tally.holds((ran.returncode, ran.stderr) == (0, ""), f"systemd-analyze verify {name}", ran.stderr)
-    for name, most in (("nachodune.service", 1.0), ("nachodune-door.service", 2.5), ("nachodune-papers.service", 1.5), ("nachodune-check.service", 1.5), ("nachodune-copy.service", 1.5), ("nachodune-watch.service", 2.5)):
+    most = {"nachodune.service": 1.0, "nachodune-papers.service": 1.5, "nachodune-check.service": 1.5, "nachodune-copy.service": 1.5}
+    for name in (it for it in UNITS if it.endswith(".service")):
         words = ["security", "--offline=true", "--no-pager", f"{room}/units/{name}"]
         ran = subprocess.run([found("systemd-analyze"), *words], capture_output=True, text=True, env=SYSTEM)
         exposure = re.search(r"Overall exposure level for \S+: ([\d.]+)", ran.stdout)
-        tally.holds(exposure and float(exposure[1]) <= most, f"systemd-analyze security {name}: at most {most}", ran.stderr + ran.stdout[-200:])
+        limit = most.get(name, 2.5)
+        tally.holds(exposure and float(exposure[1]) <= limit, f"systemd-analyze security {name}: at most {limit}", ran.stderr + ran.stdout[-200:])
 
 
 # What runs in the container: each line of its output is a name and what was seen. The tokens are those of strong().
@@ -619,8 +625,8 @@ answer() { ask -H 'X-Office-Token: tU1vW3xY5zA7' -d "{\"cand\":3,\"window\":1,\"
 age() { find /var/lib/nachodune/copies -name of.txt -exec touch -d '1 hour ago' {} +; }
 as() { setpriv --reuid=nachodune --regid=nachodune --clear-groups "$@"; }
 kept=/var/lib/nachodune/season.db lib=/usr/lib/nachodune
-chmod -R go-rwx /top; umask 077; mkdir -p /etc/nachodune; printf '#!/bin/sh\necho "$1: $2" >> /alerted\n' > /etc/nachodune/alert; chmod 755 /etc/nachodune/alert
-/top/deploy/install PROGRAM=/program HOST=office.example CERT=/etc/office.pem KEY=/etc/office.key CLERKS=127.0.0.1 SECOND=/second > /install.out 2>&1
+chmod -R go-rwx /top; umask 077; mkdir -p /etc/nachodune; printf '#!/bin/sh\necho "$1: $2" >> /var/lib/nachodune-alert/alerted\n' > /etc/nachodune/alert; chmod 755 /etc/nachodune/alert
+/top/deploy/install PROGRAM=/program HOST=office.example CERT=/etc/office.pem KEY=/etc/office.key CLERKS=127.0.0.1 SECOND=/second CA=/etc/office.pem > /install.out 2>&1
 say installed $?
 umask 022
 say connections "$(grep -c worker_connections /install.out)"
@@ -649,7 +655,7 @@ say files "$(grep 'open files' /proc/$(systemctl show -p MainPID --value nachodu
 say words "$(tr '\0' ' ' < /proc/$(systemctl show -p MainPID --value nachodune-door)/cmdline | cut -d ' ' -f 2-)"
 python3 /limits.py
 ask https://office.example/v1/round/1 > /dev/null; say text "$(ask https://office.example/v1/round/1 | cut -c 1-39)"; sleep 1.2
-say hits "$(grep /v1/round/1 /var/log/nginx/nachodune.log | tail -n 1 | grep -c '"kept":"HIT"')"
+say hits "$(grep /v1/round/1 /var/log/nachodune/nachodune.log | tail -n 1 | grep -c '"kept":"HIT"')"
 answer 1 > /dev/null; age; systemctl kill -s KILL nachodune; up
 say killed "$(state)"
 say again "$(copies)"
@@ -666,6 +672,23 @@ say late "$(state)"
 say doored "$(systemctl is-active nachodune-door.service)"
 systemctl start nachodune-night.service; up
 say night "$(state)"
+# another version takes the place of the program, as dpkg puts it: the old one answers until an administrator starts the new one
+program() { cmp -s /proc/$(systemctl show -p MainPID --value nachodune)/exe "$1" && echo "$2"; }
+put() { cp "$1" /put.new; chmod 755 /put.new; mv /put.new $lib/office; }
+cp /program /program.new; printf x >> /program.new
+put /program.new
+$lib/upgraded try > /upgraded.out 2>&1
+say tried "$? $(grep -c '^the new program reads the season and gives the rounds that are published: state window 1' /upgraded.out) $(program /program old)"
+systemctl start nachodune-night.service
+say waits "$(program /program old) $(journalctl --no-pager -q -o cat -u nachodune-night.service | grep -c 'another version is installed') $(state)"
+systemctl restart nachodune; up
+say anew "$(program /program.new new) $(answer 3)"
+before=$(systemctl show -p MainPID --value nachodune); systemctl start nachodune-night.service; up
+say nights "$(program /program.new new) $([ "$before" = "$(systemctl show -p MainPID --value nachodune)" ] && echo same || echo started)"
+put /bin/false; $lib/upgraded try > /upgraded.out 2>&1
+say wrongnew "$? $(grep -c 'the new program refuses the season' /upgraded.out) $(program /program.new new) $(state)"
+put /program; $lib/upgraded try > /upgraded.out 2>&1; say backagain "$?"; systemctl restart nachodune; up
+say older "$(program /program old) $(answer 3)"
 # not before, so that no full hour makes a copy here
 systemctl start nachodune-copy.timer
 say timers "$(systemctl is-active nachodune-night.timer nachodune-watch.timer nachodune-copy.timer nachodune-copy.path | tr '\n' ' ')"
@@ -690,20 +713,36 @@ kill $holder; wait $holder; comes active 'systemctl is-active nachodune' 400 > /
 say freed "$(state)"
 # the watch, and the command that it calls
 systemctl stop nachodune-watch.timer; systemctl reset-failed; systemctl restart nachodune; up
-rm -f /run/nachodune-alert/* /alerted; sleep 1.2; : > /var/log/nginx/nachodune.log
+rm -f /run/nachodune-alert/* /var/lib/nachodune-alert/alerted; sleep 1.2; : > /var/log/nachodune/nachodune.log
 systemctl start nachodune-watch.service
 say watched "$? $(journalctl --no-pager -q -o cat -u nachodune-watch.service | tail -n 40 | grep -c '^502: 0, 503: 0' | sed 's/[1-9].*/1/')"
+# a disk for the logs that is full, and a certificate that is over
+mkdir /var/log/whole; cp -a /var/log/nachodune/. /var/log/whole/; mount -t tmpfs -o size=200k none /var/log/nachodune; systemctl reload nginx; sleep 0.5
+head -c 300k /dev/zero > /var/log/nachodune/fill 2> /dev/null
+systemctl start nachodune-watch.service
+say fulldisk "$? $(journalctl --no-pager -q -o cat -u nachodune-watch.service | tail -n 40 | grep -c 'LOOK: nginx logs nothing.*MiB are free for')"
+umount -l /var/log/nachodune; cp -a /var/log/whole/. /var/log/nachodune/; systemctl reload nginx; sleep 0.5
+cp /etc/office.pem /good.pem; cp /etc/expired.pem /etc/office.pem; systemctl reload nginx; sleep 0.5
+systemctl start nachodune-watch.service
+say expired "$? $(journalctl --no-pager -q -o cat -u nachodune-watch.service | tail -n 40 | grep -c 'LOOK: the certificate of office.example is refused: certificate has expired')"
+cp /good.pem /etc/office.pem; systemctl reload nginx; sleep 0.5; systemctl reset-failed nachodune-watch.service
+rm -f /run/nachodune-alert/* /var/lib/nachodune-alert/alerted
+# logs are rotated by their size
+systemctl start nachodune-logs.service; say small "$? $(find /var/log/nachodune -name 'nachodune.log.1' | wc -l)"
+head -c 70M /dev/zero | tr '\0' '\n' >> /var/log/nachodune/nachodune.log; systemctl start nachodune-logs.service; state > /dev/null; sleep 1.2
+say rotated "$? $(find /var/log/nachodune -name 'nachodune.log.1' -size +60M | wc -l) $(grep -c '/v1/state' /var/log/nachodune/nachodune.log)"
+rm -f /var/log/nachodune/nachodune.log.1
 systemctl stop nachodune
 for it in $(seq 25); do state; done > /dev/null; sleep 1.2
 systemctl start nachodune-watch.service
-say away "$? $(comes 1 'grep -c "^nachodune-watch: LOOK: 502: " /alerted')"
+say away "$? $(comes 1 'grep -c "^nachodune-watch: LOOK: 502: " /var/lib/nachodune-alert/alerted')"
 systemctl stop nachodune
 cp $kept /season.kept
 python3 -c 'import sqlite3; it = sqlite3.connect("/var/lib/nachodune/season.db"); it.execute("DELETE FROM allot WHERE cand = 1"); it.commit()'
 chown nachodune:nachodune $kept*
 systemctl start nachodune
 say refused "$(comes 'failed 9' 'echo "$(systemctl is-active nachodune) $(systemctl show -p ExecMainStatus --value nachodune)"') $(state)"
-say alerted "$(comes 1 'grep -c "^nachodune: .*differs round 1 candidate 1" /alerted')"
+say alerted "$(comes 1 'grep -c "^nachodune: .*differs round 1 candidate 1" /var/lib/nachodune-alert/alerted')"
 good=$(for it in /var/lib/nachodune/copies/*Z; do grep -l 'window 1' "$it/state.txt" 2> /dev/null; done | tail -n 1)
 bad=$(ls -d /var/lib/nachodune/copies/*Z | tail -n 1)
 systemctl reset-failed nachodune
@@ -715,7 +754,7 @@ say returned "$? $(grep -c '^back to: state window 1 rounds 2 published 1' /back
 up
 say back "$(ask -H 'X-Office-Token: kL2mN4pQ6rS8' https://office.example/v1/seat/2)"
 say emptied "$(find /var/lib/nginx/nachodune-texts -type f | wc -l) $(comes 'round 1 seated 4' 'ask https://office.example/season/round-1.txt | head -n 1')"
-say logs "$(journalctl --no-pager | cat - /var/log/nginx/* /alerted | grep -c -e Qm4xTz81vKpL -e kL2mN4pQ6rS8)"
+say logs "$(journalctl --no-pager | cat - /var/log/nginx/* /var/log/nachodune/* /var/lib/nachodune-alert/alerted | grep -c -e Qm4xTz81vKpL -e kL2mN4pQ6rS8)"
 say end 0
 """
 # In the container: addresses of two networks of 64 bits, and what each gets after one address spent its limit.
@@ -777,6 +816,13 @@ SEEN = {
     "late": '{"now":1,"published":1,"reply":"state","rounds":2} 200',
     "doored": "active",
     "night": '{"now":1,"published":1,"reply":"state","rounds":2} 200',
+    "tried": "0 1 old",
+    "waits": 'old 1 {"now":1,"published":1,"reply":"state","rounds":2} 200',
+    "anew": 'new {"cand":3,"choice":"float","reply":"noted","turn":3,"window":1} 200',
+    "nights": "new started",
+    "wrongnew": '1 1 new {"now":1,"published":1,"reply":"state","rounds":2} 200',
+    "backagain": "0",
+    "older": 'old {"cand":3,"choice":"float","reply":"noted","turn":3,"window":1} 200',
     "timers": "active active active active ",
     "limit": "infinity infinity ",
     "slow": '{"now":1,"published":1,"reply":"state","rounds":2} 200 0',
@@ -785,6 +831,10 @@ SEEN = {
     "lost": "0",
     "freed": '{"now":1,"published":1,"reply":"state","rounds":2} 200',
     "watched": "0 1",
+    "fulldisk": "1 1",
+    "expired": "1 1",
+    "small": "0 0",
+    "rotated": "0 1 1",
     "away": "1 1",
     "refused": 'failed 9 {"front":"away"} 502',
     "alerted": "1",
@@ -829,6 +879,7 @@ def made_root(room, program):
         ("/usr/lib/os-release", "etc/os-release"),
         (program, "program"),
         (certificate(room), "etc/office.pem"),
+        (expired(room), "etc/expired.pem"),
         (f"{room}/key.pem", "etc/office.key"),
     ):
         shutil.copy(path, f"{root}/{name}")

@@ -258,9 +258,17 @@ def called(words, given=b"", **how):
 
 
 def certificate(room, key="ec"):
-    words = ["req", "-x509", "-newkey", key, *(["-pkeyopt", "ec_paramgen_curve:P-256"] if key == "ec" else []), "-nodes", "-days", "2", "-subj", f"/CN={HOST}"]
+    words = ["req", "-x509", "-newkey", key, *(["-pkeyopt", "ec_paramgen_curve:P-256"] if key == "ec" else []), "-nodes", "-days", "60", "-subj", f"/CN={HOST}"]
     called([found("openssl"), *words, "-addext", f"subjectAltName=DNS:{HOST}", "-keyout", f"{room}/key.pem", "-out", f"{room}/cert.pem"])
     return f"{room}/cert.pem"
+
+
+def expired(room, days=-1):
+    """Returns a certificate for the same key that is over, or that ends after these days."""
+    called([found("openssl"), "req", "-new", "-key", f"{room}/key.pem", "-subj", f"/CN={HOST}", "-addext", f"subjectAltName=DNS:{HOST}", "-out", f"{room}/expired.csr"])
+    words = ["-req", "-in", f"{room}/expired.csr", "-signkey", f"{room}/key.pem", "-days", str(days), "-copy_extensions", "copy", "-out", f"{room}/expired.pem"]
+    called([found("openssl"), "x509", *words])
+    return f"{room}/expired.pem"
 
 
 def page(room):
