@@ -214,7 +214,8 @@ def refusals_of_code():
 
 
 def statuses():
-    own = {int(status) for it in operations().values() for status in it["responses"]}
+    # a web server in front of the office has statuses of its own
+    own = {int(status) for it in operations().values() for status, told in it["responses"].items() if "/Front" not in told.get("$ref", "")}
     own |= {int(status) for status, part in ((405, "OtherMethod"), (404, "NoRoute")) if part in document()["components"]["responses"]}
     told = {(int(status), phrase) for status, phrase in re.findall(r"^\| (\d{3}) \| ([A-Z][\w -]*?) \|", section("\n## Requests over HTTP\n"), re.M)}
     in_code = {(int(status), phrase) for status, phrase in re.findall(r'\((\d+), codes "([^"]+)"\)', text_of("crates/http_wire/specs/Statuses.antt"))}
