@@ -224,10 +224,36 @@ def crowd_of_one(room, program):
         whole = sum(not it[1] and it[0] is not None for it in fine)
         told = f"{len(seats)} of {many} have their seat, half within {sorted(seats)[len(seats) // 2]:.1f} s, the last after {max(seats, default=0):.1f} s; {whole} visits are whole"
         bars.add(f"{many} visitors of one address within {seconds} s get their seat", told, len(seats) == many == whole, f"{[it for it in fine if it[1]][:2]}")
-        known_large(room, nginx)
 
 
-def known_large(room, nginx):
-    """A known large address has ten times the limit."""
-    with open(f"{room}/conf/large-geo.conf", encoding="utf-8") as it:
-        tally.holds("geo $nd_is_large" in it.read(), "the file of large addresses")
+@part("a known large address, and files for finders", ["nginx", "openssl"])
+def known_large(room, program):
+    """An address that LARGE names has ten times the limit; and what CONTACT and headers.conf give."""
+    with Recorder(REPLY) as office, Front(room, f"127.0.0.1:{office.port}", LARGE="127.0.0.36,10.0.0.0/8", CONTACT="https://board.example/contact") as nginx:
+        for source, is_large in (("127.0.0.36", True), ("127.0.0.37", False)):
+            calls = [functools.partial(statuses_of, nginx, source, 150)] * 10
+            seen = [status for it in in_threads(calls) for status in it]
+            tally.holds((429 in seen) != is_large and 404 in seen, f"1,500 questions at once from {'a known large' if is_large else 'another'} address", f"{seen.count(429)} of {len(seen)} are refused")
+        told = nginx.ask("GET", "/.well-known/security.txt")
+        tally.holds(told.status == 200 and b"Contact: https://board.example/contact\nExpires: 20" in told.body and told.fields["content-type"].startswith("text/plain"), "security.txt", f"{told}")
+        told = nginx.ask("GET", "/robots.txt")
+        tally.holds(told.status == 200 and b"Disallow: /v1/" in told.body, "robots.txt", f"{told}")
+        for path in ("/", "/candidate/", "/season/none", "/robots.txt"):
+            tally.same(nginx.ask("GET", path).fields.get("x-frame-options"), "DENY", f"{path} is in no frame")
+        for path, words in (("/assets/", b"There is nothing to see"), ("/season/", b"There is nothing to see"), ("/clerk/", b"This page is closed here")):
+            told = nginx.ask("GET", path)
+            tally.holds(told.status == 403 and words in told.body, f"{path}: a page for people", f"{told}")
+    shutil.rmtree(f"{room}/conf")
+    with Recorder(REPLY) as office, Front(room, f"127.0.0.1:{office.port}") as nginx:
+        tally.same(nginx.ask("GET", "/.well-known/security.txt").status, 404, "no security.txt without CONTACT")
+
+
+def statuses_of(nginx, source, many):
+    """The statuses of questions over one connection."""
+    found, held = [], b""
+    with nginx.connected(source) as link:
+        for _ in range(many):
+            link.sendall(request("GET", "/v1/none", host=f"{HOST}:{nginx.port}"))
+            came, held = read_reply(link, held)
+            found.append(came.status)
+    return found

@@ -162,7 +162,7 @@ def request(method, path, token=None, body=None, fields=(), host=HOST):
 class Front:
     """nginx over the files of deploy/, with a certificate for HOST and the tries of a check."""
 
-    def __init__(self, room, upstream, web=None, clerks=f"127.0.0.1,{CLERK_AT}"):
+    def __init__(self, room, upstream, web=None, clerks=f"127.0.0.1,{CLERK_AT}", **more):
         self.room, self.port, self.plain = room, free_port(), free_port()
         # nginx's workers are another user where root starts it
         os.chmod(room, 0o755)
@@ -183,6 +183,7 @@ class Front:
             "PAPERS": f"{room}/season",
             "CACHE": f"{room}/temp/texts",
             "LOG": f"{room}/logs",
+            **more,
         }
         called([f"{DEPLOY}/fill", f"{room}/conf", *(f"{name}={value}" for name, value in values.items())])
         with open(f"{DEPLOY}/alone.conf", encoding="utf-8") as it, open(f"{room}/nginx.conf", "w", encoding="utf-8") as to:
