@@ -97,7 +97,7 @@ def odd_stores(room, program, given):
         for end, data in files.items():
             if data is None:
                 base = sqlite3.connect(store)
-                base.execute("CREATE TABLE phase(x)")
+                base.execute("CREATE TABLE guests(name)")
                 base.commit()
                 base.close()
             else:
