@@ -748,7 +748,7 @@ bad=$(ls -d /var/lib/nachodune/copies/*Z | tail -n 1)
 systemctl reset-failed nachodune
 cp -r "$(dirname "$good")" /wrong; echo x > /wrong/season.db; rm -f /wrong/season.db-wal
 $lib/go-back /wrong > /back.out 2>&1
-say wrong "$? $(grep -c 'the office refuses the copy' /back.out)"
+say wrong "$? $(grep -c 'take another copy' /back.out)"
 $lib/go-back "$(dirname "$good")" > /back.out 2>&1
 say returned "$? $(grep -c '^back to: state window 1 rounds 2 published 1' /back.out) $(find /var/lib/nachodune/replaced-*/ -name season.db | wc -l)"
 up
@@ -908,7 +908,7 @@ def booted(room, program):
     with open(f"{room}/boot.log", "wb") as log:
         child = subprocess.Popen(words, stdin=subprocess.DEVNULL, stdout=log, stderr=log)
     try:
-        child.wait(400)
+        child.wait(900)
     except subprocess.TimeoutExpired:
         child.terminate()
         child.wait(60)
