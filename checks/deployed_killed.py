@@ -225,6 +225,6 @@ def refusals(room, program, copy):
         shutil.rmtree(f"{room}/at", ignore_errors=True)
         shutil.copytree(f"{room}/made", f"{room}/at")
         ran, _ = gone_back(program, room, 0, "before", wrong)
-        tally.holds(ran.returncode == 1 and "take another" in ran.stderr and sorted(os.listdir(f"{room}/at")) == sorted(os.listdir(f"{room}/made")), f"go-back refuses a copy without {label}", f"{ran}")
+        tally.holds(ran.returncode == 1 and "take another" in ran.stderr.lower() and sorted(os.listdir(f"{room}/at")) == sorted(os.listdir(f"{room}/made")), f"go-back refuses a copy without {label}", f"{ran}")
         check = subprocess.run([f"{DEPLOY}/keep-copy", "--check", f"{room}/wrong"], capture_output=True, text=True, env={**SYSTEM, "OFFICE": program})
         tally.holds(check.returncode == 1 and "no whole copy" in check.stderr and os.path.exists(f"{wrong}/refused.txt"), f"keep-copy --check refuses a copy without {label}", f"{check}")
