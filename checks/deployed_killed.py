@@ -60,6 +60,16 @@ def rows_of(program, store, room):
     return ran.stdout, rows
 
 
+def bytes_of(store):
+    """Returns the bytes of a store and of its log."""
+    found = []
+    for end in ("", "-wal"):
+        if os.path.exists(store + end):
+            with open(store + end, "rb") as it:
+                found.append(it.read())
+    return found
+
+
 def answered(program, room, begins, turns):
     """Lets an office answer these turns, and kills it, so that its log is left."""
     with Office(program, room) as office:
@@ -99,8 +109,9 @@ def check_killed(room, program):
         tally.skips("keep-copy --check killed at each call", "SQLite 3.37 in Python")
         return
     folder = copies_made(program, room)
-    wanted = {it: rows_of(program, f"{folder}/{it}/season.db", f"{room}/look") for it in os.listdir(folder)}
-    tally.same(len({len(it[1]) for it in wanted.values()}), 5, "five copies, each with more answers")
+    wanted = {it: bytes_of(f"{folder}/{it}/season.db") for it in os.listdir(folder)}
+    counts = {len(rows_of(program, f"{folder}/{it}/season.db", f"{room}/look")[1]) for it in wanted}
+    tally.same(counts, {6, 12, 18, 24, 30}, "five copies, each with more answers")
     plain = (f"{room}/plain", f"{room}/plain-second")
     shutil.copytree(folder, plain[0])
     tally.same(driven(program, 0, "before", *plain), 0, "a check that nobody kills")
@@ -114,7 +125,7 @@ def check_killed(room, program):
             shutil.copytree(folder, pair[0])
             ended.append(driven(program, at, mode, *pair))
             kills += ended[-1] == -signal.SIGKILL
-            odd += [f"{mode} {it}" for it in torn(program, pair, wanted, room)]
+            odd += [f"{mode} {it}" for it in torn(pair, wanted)]
             again = driven(program, 0, "before", *pair)
             left = [sorted(os.listdir(it)) for it in pair]
             odd += [] if (again, left) == (0, [sorted(os.listdir(it)) for it in plain]) else [f"{mode}: the next check ends with {again} and leaves {left}"]
@@ -124,14 +135,12 @@ def check_killed(room, program):
     tally.holds(kills > 40, "keep-copy --check is killed at many calls", f"{kills}")
 
 
-def torn(program, pair, wanted, room):
-    """Returns the copies that the office would take and that are not what was copied."""
+def torn(pair, wanted):
+    """Returns the copies that are marked as good and are not byte by byte what was copied."""
     for folder in pair:
         for name in os.listdir(folder) if os.path.isdir(folder) else []:
-            if name in wanted and os.path.exists(f"{folder}/{name}/state.txt"):
-                came = rows_of(program, f"{folder}/{name}/season.db", f"{room}/look")
-                if came != wanted[name]:
-                    yield f"{os.path.basename(folder)}/{name} has {came and len(came[1])} answers and not {len(wanted[name][1])}"
+            if name in wanted and os.path.exists(f"{folder}/{name}/state.txt") and bytes_of(f"{folder}/{name}/season.db") != wanted[name]:
+                yield f"{os.path.basename(folder)}/{name} is another one"
 
 
 # ---- go-back
@@ -183,7 +192,7 @@ def back_killed(room, program):
             ran, _ = gone_back(program, room, 0, "before", copy)
             came = rows_of(program, f"{room}/at/season.db", f"{room}/look")
             odd += [] if ran.returncode == 0 and came == new else [f"the next call: {ran.returncode} {ran.stderr} {came and len(came[1])}"]
-            odd += [] if kept_aside(program, room, old) else ["the old store is nowhere"]
+            odd += [] if kept_aside(room) else ["the old store is nowhere"]
             tally.holds(not odd, f"go-back killed {mode} call {at}", f"{odd[:2]}")
     tally.holds(calls and calls > 15, "go-back is killed at many calls", f"{calls}")
     refusals(room, program, copy)
@@ -191,28 +200,20 @@ def back_killed(room, program):
 
 def after_kill(program, room, old, new):
     """What is wrong with the store that a killed call left: it is the old one, or the copy, or there is none."""
-    if not os.path.exists(f"{room}/at/season.db"):
+    if not os.path.exists(f"{room}/at/season.db") or bytes_of(f"{room}/at/season.db") == bytes_of(f"{room}/made/season.db"):
         return []
     came = rows_of(program, f"{room}/at/season.db", f"{room}/look")
     return [] if came in (old, new) else [f"a start takes {came and len(came[1])} answers"]
 
 
-def kept_aside(program, room, old):
-    """Whether the old store and its log are in the folders next to the store; two calls may have shared them out."""
-    found = {end: [] for end in ("", "-wal")}
+def kept_aside(room):
+    """Whether the old store and its log are in the folders next to the store, byte by byte; two calls may have shared them out."""
+    found = []
     for at, _, names in os.walk(f"{room}/at"):
-        for end, paths in found.items():
-            paths += [f"{at}/season.db{end}"] if "/replaced-" in at and f"season.db{end}" in names else []
-    for store in found[""]:
-        for log in (*found["-wal"], None):
-            shutil.rmtree(f"{room}/aside", ignore_errors=True)
-            os.makedirs(f"{room}/aside")
-            shutil.copy(store, f"{room}/aside/season.db")
-            if log:
-                shutil.copy(log, f"{room}/aside/season.db-wal")
-            if rows_of(program, f"{room}/aside/season.db", f"{room}/look") == old:
-                return True
-    return False
+        for name in names if "/replaced-" in at else []:
+            with open(f"{at}/{name}", "rb") as it:
+                found.append(it.read())
+    return all(it in found for it in bytes_of(f"{room}/made/season.db"))
 
 
 def refusals(room, program, copy):
