@@ -12,6 +12,9 @@ from plain_trials import Draw
 MANY = 12_000
 # values of another kind than a member has, as their text
 ODD = ('"1"', "1.0", "1e0", "-1", "null", "true", "[1]", '{"a":1}', '""', '"' + "x" * 17 + '"', "99999999999999999999", '"\\u0000"', '"कखग"', "01")
+# what is no number, and no code, in a path
+NO_NUMBERS = ("0x1", "-1", "01", "1.0", "99999999999", "%31", "é", "")
+SPOILED = {"prog": ("a" * 17, "A.B", "%41", "é", "")}
 TOKENS = (CLERK, SECOND, THIRD, "tok00001", "tok00009", "wrongwrong", "", "x" * 40, "tok0000é")
 
 
@@ -39,7 +42,7 @@ def drawn_path(draw, path):
 
     def put(found):
         name = found[1]
-        return one_of(draw, ("0x1", "-1", "01", "1.0", "99999999999", "a" * 17, "%41", "é", "")) if name == spoiled else str(drawn(draw, given[name]))
+        return one_of(draw, SPOILED.get(name, NO_NUMBERS)) if name == spoiled else str(drawn(draw, given[name]))
 
     made = re.sub(r"\{(\w+)\}", put, path)
     if wrong and not given:
