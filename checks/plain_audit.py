@@ -1,11 +1,19 @@
+#!/usr/bin/env python3
 """A plain auditor, outside of the program and its proofs: what is wrong with a published season, by going through the clauses one after another.
+
+    python3 plain_audit.py < dossier.txt           prints the line that `office audit` prints, and exits with its status
+    python3 plain_audit.py --best < dossier.txt    does the same for `audit best`
 
 It reads a dossier, which is a bundle with its requests and the texts that were published for it, and replays the season with the rounds that it finds there. Whom a
 step should have admitted is not made: each clause is tried on what is listed, and each exchange by trying every placement. So it serves for small dossiers, and for a season of
 some hundred candidates. Of the faults of a season it knows the few
 that are drawn in checks/plain_dossiers.py or are in cases/audit.txt."""
+import argparse
+import csv
+import io
 import itertools
 import re
+import sys
 
 from plain_office import STAYS, STEPS, TRAITS, Office, Round, Season, greatest
 from plain_scripts import is_request
@@ -54,13 +62,26 @@ def parts_of(given):
 # ---- the season and its script
 
 
+def records(text):
+    """Returns the comma-separated records of a text, with or without quotes. Empty fields at an end are none, and a record without fields is none."""
+    csv.field_size_limit(sys.maxsize)
+    found = []
+    for fields in csv.reader(io.StringIO(text, newline="")):
+        while fields and not fields[-1]:
+            fields.pop()
+        if fields:
+            found.append(fields)
+    return found
+
+
 def season_of(bundle):
     """The season of a bundle without a fault, but for the few faults that are known here."""
     try:
         text = bundle.decode().removeprefix("\ufeff")
     except UnicodeDecodeError:
         raise Fault("bundle NotUtf8") from None
-    lines = [title(it).decode() for _, _, it in lines_of(text.encode())]
+    whole = [it for _, _, it in lines_of(text.encode())]
+    lines = [title(it).decode() for it in whole]
     if not lines or lines[0] not in ("office bundle 1", "office bundle 2"):
         raise Fault("bundle BadFirstLine")
     named = [(number, it) for number, it in enumerate(lines, 1) if it.startswith("[")]
@@ -72,7 +93,7 @@ def season_of(bundle):
             raise Fault(f"bundle line {len(lines) + 1} Section")
     if len(named) > len(SECTIONS):
         raise Fault(f"bundle line {named[len(SECTIONS)][0]} Section")
-    body = {name: [it.split(",") for it in lines[number : end - 1] if it] for (number, name), (end, _) in zip(named, [*named[1:], (len(lines) + 1, "")])}
+    body = {name: records(b"".join(whole[number : end - 1]).decode()) for (number, name), (end, _) in zip(named, [*named[1:], (len(lines) + 1, "")])}
     for number, row in enumerate(body["[season]"], 1):
         if row[0] == "rounds" and (len(row) != 2 or row[1] not in [str(it) for it in range(1, 11)]):
             raise Fault(f"season row {number} BadSeason")
@@ -82,16 +103,16 @@ def season_of(bundle):
             raise Fault(f"choices row {number} UnknownCandidate")
         if not codes.issuperset(row[1:]):
             raise Fault(f"choices row {number} UnknownProgramme")
-    return Season("\n".join(lines))
+    return Season("\n".join([lines[0], *(line for name in SECTIONS for line in (name, *map(",".join, body[name])))]))
 
 
 def script_of(requests):
-    """The rows of a script without quotes."""
+    """The rows of a script."""
     try:
         text = requests.decode().removeprefix("\ufeff")
     except UnicodeDecodeError:
         raise Fault("bundle NotUtf8") from None
-    rows = [row for row in (it.rstrip(",").split(",") for it in re.split("[\r\n]", text)) if row != [""]]
+    rows = records(text)
     for number, row in enumerate(rows, 1):
         if not is_request(row):
             raise Fault(f"requests row {number} BadRequest")
@@ -372,3 +393,16 @@ def verdict(given, is_best=False):
     if office.worse:
         return sound + b"not best round %d %d\n" % (office.worse[0], int(office.worse[1])), 10
     return sound + b"best\n", 0
+
+
+def main() -> int:
+    """Writes the verdict on the dossier of the standard input; returns the status that the program would have."""
+    words = argparse.ArgumentParser(description="Prints the verdict on a dossier, which is read from standard input.")
+    words.add_argument("--best", action="store_true", help="also prints whether each published round is the best one")
+    wrote, status = verdict(sys.stdin.buffer.read(), words.parse_args().best)
+    sys.stdout.buffer.write(wrote)
+    return status
+
+
+if __name__ == "__main__":
+    sys.exit(main())

@@ -4,13 +4,16 @@ import itertools
 import os
 import re
 import runpy
+import subprocess
+import sys
 
-from cases import called, first_difference
+from cases import SECONDS, called, first_difference
 from plain_audit import MOST_INPUT, applies, verdict
 from plain_office import STEPS, Office, Season, certificate
 from plain_special import drawn_season
 
-OF_BUNDLE = runpy.run_path(f"{os.path.dirname(os.path.dirname(os.path.realpath(__file__)))}/tools/dossier")["of_bundle"]
+TOP = os.path.dirname(os.path.dirname(os.path.realpath(__file__)))
+OF_BUNDLE = runpy.run_path(f"{TOP}/tools/dossier")["of_bundle"]
 
 # ---- dossiers that can be damaged
 
@@ -94,6 +97,15 @@ def one_of(draw, items):
 
 
 def nothing(draw, dossier):
+    return dossier.given()
+
+
+def quoted(draw, dossier):
+    """Some fields of the bundle and of the requests are in quotes, as a spreadsheet or `units` writes them; nothing else changes."""
+    def in_quotes(line):
+        return line if line.startswith(("[", "office")) or not line else ",".join(f'"{it}"' if draw.below(2) else it for it in line.split(","))
+
+    dossier.bundle, dossier.requests = ("\n".join(map(in_quotes, it.split("\n"))) for it in (dossier.bundle, dossier.requests))
     return dossier.given()
 
 
@@ -279,7 +291,7 @@ def season_broken(draw, dossier):
     return given.replace(old, new, 1)
 
 
-DAMAGES = (nothing, seats_changed, seats_changed, round_changed, best_handed_on, best_handed_on, nobody_stays, line_changed, line_changed, cut_short, number_changed, letter_changed, order_changed, final_changed, season_changed, season_broken)
+DAMAGES = (nothing, quoted, seats_changed, seats_changed, round_changed, best_handed_on, best_handed_on, nobody_stays, line_changed, line_changed, cut_short, number_changed, letter_changed, order_changed, final_changed, season_changed, season_broken)
 CLAUSES = ("NotSought", "Fell", "Unlisted", "WrongNumbers", "NotCandidate", "WrongSize", "BadCertificate", "Overtaken", "FinalDiffers")
 FAULTS = ("dossier NoSection", "bundle NotUtf8", "bundle BadFirstLine", "bundle line", "season row", "choices row", "requests row", "published line")
 
@@ -347,9 +359,24 @@ def fault_of_own(program: str, label: str, given: bytes) -> str | None:
     return None if own == found else f"{label}: {wrote.decode().split()} of rounds and final admissions that are not the office's"
 
 
+def fault_of_divided(program):
+    """Why the dossier of examples/two-states with all its cuts is not sound and best by both auditors, or None."""
+    with open(f"{TOP}/examples/two-states/divided.txt", "rb") as it:
+        bundle = it.read() + b"answer,1,1,1,1,freeze\nanswer,2,2,1,1,float\ncut,clerk,1\ncut,clerk,2\n"
+    given = OF_BUNDLE(lambda words, it: called(program, words, it, "/"), bundle)
+    told = b"audit sound rounds 2\nbest\n", 0
+    if b'"' not in given or verdict(given, True) != told:
+        return f"the dossier of two-states: the plain auditor says {verdict(given, True)[0]!r}"
+    found = called(program, ["audit", "best"], given, "/")
+    ran = subprocess.run([sys.executable, f"{TOP}/checks/plain_audit.py", "--best"], input=given, capture_output=True, timeout=SECONDS)
+    by_command = ran.stdout, ran.returncode
+    return None if found == by_command == told else f"the dossier of two-states: audit best says {found}, and the plain auditor as a command {by_command}"
+
+
 def trials(program, dossiers, seasons):
     """What is tried, each a call that gives a fault or None: the verdict on each of these dossiers, that those which are sound and best have the office's own rounds,
     and that the dossiers of seasons that are generated from these numbers are sound."""
+    yield functools.partial(fault_of_divided, program)
     for label, given, told, status in dossiers:
         yield functools.partial(fault_of_audit, program, label, given, told, status)
         if not status:
