@@ -3,11 +3,13 @@ import csv
 import io
 import os
 import re
+import sqlite3
 import subprocess
 import sys
-from typing import NamedTuple
+import tempfile
+from typing import Callable, NamedTuple
 
-from formats import FIRST_LINES, SECTIONS
+from formats import FIRST_LINES, SECTIONS, UNITS_LINE
 
 TOP = os.path.dirname(os.path.dirname(os.path.realpath(__file__)))
 MARK = "\ufeff"
@@ -128,6 +130,29 @@ def season_of(bundle):
 
 def is_bundle(data):
     return title(lines_of(data.removeprefix(MARK.encode()))[:1][0] if data else b"").decode(errors="replace") in FIRST_LINES
+
+
+def is_units(data: bytes) -> bool:
+    """Returns whether an input is a bundle with units."""
+    return title(lines_of(data.removeprefix(MARK.encode()))[0] if data else b"").decode(errors="replace") == UNITS_LINE
+
+
+def season_in(store: str) -> bytes:
+    """Returns the bundle that a store keeps."""
+    base = sqlite3.connect(store)
+    try:
+        return b"".join(it for (it,) in base.execute("SELECT bytes FROM season ORDER BY part"))
+    finally:
+        base.close()
+
+
+def plain_bundle(call: Callable, data: bytes) -> bytes:
+    """Returns the plain bundle of a bundle with units, with the same requests. The office itself makes it, in a store that is thrown away."""
+    season, requests, _ = split_at(data, "requests")
+    with tempfile.TemporaryDirectory(prefix="units-") as room:
+        told(call, ["units", f"{room}/season.db"], season)
+        plain = ended(season_in(f"{room}/season.db"))
+    return plain if requests is None else plain + b"[requests]\n" + requests
 
 
 def missing_sections(data):

@@ -7,7 +7,7 @@ import shutil
 import sqlite3
 import tempfile
 
-from bundles import ended, rows, season_of, sections, split_at, table, told
+from bundles import ended, is_units, plain_bundle, rows, season_of, sections, split_at, table, told
 from formats import ANSWERS, HEADERS, SECTIONS, STEPS, TOKEN
 
 # ---- what is published
@@ -55,7 +55,8 @@ def asked(bundle, requests):
 
 
 def of_bundle(call, bundle):
-    """Returns the dossier of a bundle with its requests."""
+    """Returns the dossier of a bundle with its requests; that of a bundle with units has its plain bundle."""
+    bundle = plain_bundle(call, bundle) if is_units(bundle) else bundle
     told(call, ["check"], bundle)
     season, requests, _ = split_at(bundle, "requests")
     output = told(call, ["run", "memory"], ended(season) + b"[requests]\n" + asked(season, rows(requests or b"")))

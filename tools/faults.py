@@ -161,9 +161,19 @@ MATRIX = {
 # ---- the choices
 
 
+def units_of(rows):
+    """Returns a function from a choice of the row to the code in the matrix: that of a divided programme becomes one of its units."""
+    homes = {it.fields[0]: it.fields[1] for it in rows.given.rows("units") if len(it.fields) == 2}
+    state = next((it.fields[1] for it in rows.given.rows("states") if it.fields[0] == rows.field(0) and len(it.fields) == 2), None)
+    return lambda code: f"{code}-{'HS' if homes[code] == state else 'OS'}" if code in homes else code
+
+
 def unknown_programme(rows):
-    known = {it.fields[0] for it in rows.given.rows("matrix")}
-    return rows.first(range(1, len(rows.fields)), known.__contains__) if known else None, "each choice is the code of a programme of the matrix, letter by letter"
+    known, unit = {it.fields[0] for it in rows.given.rows("matrix")}, units_of(rows)
+    at = rows.first(range(1, len(rows.fields)), lambda code: unit(code) in known) if known else None
+    if at is not None and unit(rows.field(at)) != rows.field(at):
+        return at, f"for this candidate the choice is the unit {unit(rows.field(at))}, and the matrix has no such programme"
+    return at, "each choice is the code of a programme of the matrix, letter by letter"
 
 
 def repeated_programme(rows):
@@ -174,10 +184,10 @@ def repeated_programme(rows):
 def without_place(rows):
     merit = {it.fields[0]: it.fields[2] for it in rows.given.rows("matrix")[1:] if len(it.fields) > 2}
     person = next((it.fields for it in rows.given.rows("register")[1:] if it.fields[0] == rows.field(0)), None)
-    at = None
+    at, unit = None, units_of(rows)
     if person and merit:
-        at = rows.first(range(1, len(rows.fields)), lambda code: code not in merit or any(person[3 + int(merit[code]) :][:1]))
-    return at, "a candidate lists only programmes in whose merit list they have a place" + (f"; this one has merit list {merit[rows.fields[at]]}" if at else "")
+        at = rows.first(range(1, len(rows.fields)), lambda code: unit(code) not in merit or any(person[3 + int(merit[unit(code)]) :][:1]))
+    return at, "a candidate lists only programmes in whose merit list they have a place" + (f"; this one has merit list {merit[unit(rows.fields[at])]}" if at else "")
 
 
 def direct_unit(rows):
