@@ -147,6 +147,24 @@ def fault_of_case(case, every):
         return f"tools/season, {case.name}: {lacks[0]}" if lacks else f"tools/season, {case.name}: it shows a token" if secret else None
 
 
+def saved_again(room):
+    """Returns the bundles that tools/season makes after the file of tokens was saved in other ways: with semicolons, as UTF-16, as Windows writes letters."""
+    found = set()
+    with open(f"{room}/tokens.csv", encoding="utf-8-sig", newline="") as it:
+        rows = [*csv.reader(it)]
+    with open(f"{room}/tokens.csv", "rb") as it:
+        before = it.read()
+    for how, sign in (("utf-8", ";"), ("utf-16", "\t"), ("cp1252", ",")):
+        out = io.StringIO(newline="")
+        csv.writer(out, delimiter=sign).writerows(rows)
+        with open(f"{room}/tokens.csv", "wb") as it:
+            it.write(out.getvalue().encode(how))
+        found.add(called("season", [room])[0])
+    with open(f"{room}/tokens.csv", "wb") as it:
+        it.write(before)
+    return found
+
+
 def tokens():
     """Tokens are made by chance, stay the same at a second call, and are for their owner alone, with the columns that were left out."""
     with tempfile.TemporaryDirectory(prefix="season-", dir=cases.ROOMS) as room:
@@ -157,6 +175,7 @@ def tokens():
         again, said, _ = called("season", [room])
         with open(f"{room}/tokens.csv", encoding="utf-8-sig", newline="") as it:
             rows = [*csv.reader(it)]
+        again_in_books = saved_again(room)
         mode = stat.S_IMODE(os.stat(f"{room}/tokens.csv").st_mode)
         with open(f"{room}/other.csv", "w", encoding="utf-8") as it:
             it.write("name\nx\n")
@@ -164,7 +183,9 @@ def tokens():
     made = [row[1] for row in rows[2:]]
     if first != again or "3 are of an earlier call" not in said:
         yield "tools/season: a second call makes other tokens"
-    if mode != 0o600 or rows[0] != ["candidate", "token", "E-Mail"] or rows[2][2] != "a@example":
+    if again_in_books != {first}:
+        yield f"tools/season: a file of tokens that a spreadsheet program saved again gives {len(again_in_books)} bundles, or another one"
+    if mode != 0o600 or rows[0] != ["candidate", "token", "number", "application_number", "name", "E-Mail"] or rows[2][2:] != ["1", "", "", "a@example"]:
         yield f"tools/season: the file of tokens has mode {mode:o} and the rows {rows[:1]}"
     if len(set(made)) != 3 or not all(re.fullmatch("[a-f][0-9a-f]{31}", it) and it.encode() in first for it in made):
         yield "tools/season: a token is not 32 characters by chance"

@@ -1,158 +1,34 @@
-"""What the three spreadsheets of a season and its settings say: tools/season reads them by this. Each reader reports everything that is wrong, and gives what is right."""
+"""What the register, the choices and the settings of a season say: tools/season reads them by this. Each reader reports everything that is wrong, and gives what is right."""
+import difflib
 import re
+from typing import Any, Iterable, Optional
 
-from formats import ALL_CHOICES, ALL_SEATS, ALLOWED, CANDIDATES, CATEGORIES, CHOICES, CODE, HEADERS, LISTS, MERIT_LISTS, NUMBER, OTHER_WORDS
-from formats import PLACE, PROGRAMMES, ROUNDS, SEATS, TOKEN, TRAITS, listed
-from spreadsheets import Cell, letters, read, stripped, table
+from formats import ALL_CHOICES, ALLOWED, CANDIDATES, CHOICES, MERIT_LISTS, NUMBER, ROUNDS, TOKEN, TRAITS, listed
+from season_columns import CHOICE
+from season_ranks import cells_of, give_places, lists_of, read_ranks
+from season_seats import Matrix
+from season_words import application, bare, category, code, gender, has_trait, is_code, number, place, state, traits
+from spreadsheets import Cell, Findings, Table, letters, read_table, stripped
 
-# how people write the words, without signs and in small letters
-CATEGORY_WORDS = {"general": "GEN", "ur": "GEN", "unreserved": "GEN", "generalews": "EWS", "obcncl": "OBC", "genews": "EWS", "scheduledcaste": "SC", "scheduledtribe": "ST"}
-CATEGORY_WORDS |= {it.lower(): it for it in CATEGORIES} | {words.replace(" ", ""): it for it, words in CATEGORIES.items()}
-TRAIT_WORDS = {re.sub("[^a-z]", "", words): letter for letter, words in TRAITS.items()}
-TRAIT_WORDS |= {"female": "W", "woman": "W", "disabled": "D", "exserviceman": "X", "esm": "X", "ff": "F", "local": "L", "none": "", "nil": "", "na": ""}
-DISABLED = ("pwd", "pwbd", "ph")
-OPEN_WORDS = ("gen", "general", "ur", "unreserved")
-ASKS_F = "F means dependants of freedom fighters, never female (women are W): do these candidates have it?"
-ASKS_D = "is D meant, persons with disabilities?"
-ASKS_GEN = "OPEN is a step: is the category GEN meant?"
-ASKS_OPEN = "are the OPEN seats meant, for candidates of every category?"
 ASKS_GAPS = "a preference is missing in the order: do the later choices move up?"
+ASKS_TWICE = "a candidate has two rows that agree in every column that is read: is one of them left out?"
+# preferences, and the least likeness of words that are named as perhaps meant
+PREFERENCE, LIKE = "a preference is a number from 1 on, and the most wanted programme has 1", 0.75
 
 
-def bare(text):
-    return re.sub("[^a-z0-9]", "", text.lower())
-
-
-def missing_of(ranks):
+def missing_of(ranks: list) -> list:
     """Returns the preferences that are missing before the last one, in words such as 2 or 4 to 6."""
     gaps = [(before + 1, rank - 1) for before, rank in zip([0, *ranks], ranks) if rank > before + 1]
     return [str(first) if first == last else f"{first} to {last}" for first, last in gaps]
 
 
-# ---- single fields
-
-
-def number(cell, limit, allowed, findings):
-    """Returns the number of a field, or None if it is none within the limit."""
-    text = cell.text
-    plain = re.fullmatch(r"0*([0-9]+?)(\.0+)?", text)
-    if plain and limit.has(int(plain[1])):
-        if plain[1] != text:
-            findings.read_as(cell, plain[1], "numbers with zeros before them or .0 behind them")
-        return int(plain[1])
-    more = ""
-    if plain and limit is NUMBER and int(plain[1]) > limit.most:
-        more = "; number the candidates anew, and keep the long number in a column of your own"
-    elif re.fullmatch(r"[0-9.,]+[eE][+]?[0-9]+", text):
-        more = "; the spreadsheet shortened the number: format the column as a number without decimals"
-    elif re.fullmatch("[0-9]{1,3}([, '][0-9]{2,3})+", text):
-        more = "; write it without signs between the digits"
-    findings.wrong(cell, allowed + more)
-    return None
-
-
-def category_of(word):
-    """Returns the category of a bare word, OPEN if the word says that, or None."""
-    return CATEGORY_WORDS.get(word) or CATEGORY_WORDS.get(word.rstrip("s")) or ("OPEN" if word == "open" else None)
-
-
-def category(cell, findings):
-    """Returns the category of a field, and D if the field says that too."""
-    word = bare(cell.text)
-    ending = next((it for it in DISABLED if word.endswith(it) and category_of(word.removesuffix(it))), "")
-    found = category_of(word.removesuffix(ending))
-    if found == "OPEN":
-        found = "GEN" if findings.doubts("GEN", ASKS_GEN, cell) else None
-    elif not found:
-        findings.wrong(cell, ALLOWED["category"])
-    if ending and not findings.doubts("PwD", ASKS_D, cell):
-        return found, ""
-    if found and cell.text not in (found, *OTHER_WORDS):
-        findings.read_as(cell, f"{found}{' with the trait D' if ending else ''}")
-    return found, "D" if ending else ""
-
-
-def letters_of(word, cell, findings):
-    """Returns the trait letters of one word, or None if it has none."""
-    name = bare(word)
-    if name in DISABLED:
-        return "D" if findings.doubts("PwD", ASKS_D, cell) else ""
-    if name in TRAIT_WORDS:
-        return TRAIT_WORDS[name]
-    found = word.upper().replace("-", "")
-    if not set(found) <= set(TRAITS):
-        return None
-    if "F" in found:
-        findings.doubts("F", ASKS_F, cell)
-    return found
-
-
-def traits(cell, findings):
-    """Returns the set of traits of a field, as the office spells it."""
-    text = bare(cell.text)
-    words = [cell.text] if text in TRAIT_WORDS or text in DISABLED else [it for it in re.split(r"[;,/+&|\s]+", cell.text) if it]
-    found = [letters_of(it, cell, findings) for it in words]
-    if None in found:
-        why = "; there is no trait for men: leave the field empty" if bare(cell.text) in ("m", "male") else ""
-        findings.wrong(cell, ALLOWED["traits"] + why)
-        return ""
-    joined = "".join(found)
-    if len(set(joined)) < len(joined):
-        findings.wrong(cell, f"a letter is there twice; {ALLOWED['traits']}")
-    made = "".join(it for it in TRAITS if it in joined) or "-"
-    if cell.text not in ("", made):
-        findings.read_as(cell, made)
-    return made
-
-
-def place(cell, findings):
-    """Returns a place of a merit list as the office spells it, or nothing."""
-    if not cell.text:
-        return ""
-    bare_text = re.sub(r"\s*[rR]$", "", cell.text)
-    found = number(cell._replace(text=bare_text), PLACE, ALLOWED["place"], findings)
-    if found is None:
-        return ""
-    relaxed = bare_text != cell.text
-    if relaxed and not re.fullmatch("[0-9.]+R", cell.text):
-        findings.read_as(cell, f"{found}R")
-    return f"{found}R" if relaxed else str(found)
-
-
-def code(cell, findings):
-    """Returns a code, or None if it is none."""
-    text = cell.text
-    if re.fullmatch(r"[0-9]+\.0+", text):
-        text = text.partition(".")[0]
-        findings.read_as(cell, text, "numbers with .0 behind them")
-    if CODE.has(len(text)) and re.fullmatch("[A-Za-z0-9-]+", text):
-        return text
-    findings.wrong(cell, ALLOWED["code"])
-    return None
-
-
-def step(cell, findings):
-    word = bare(cell.text)
-    if word in OPEN_WORDS:
-        if findings.doubts("OPEN", ASKS_OPEN, cell):
-            findings.read_as(cell, "OPEN")
-        return "OPEN"
-    found = "OPEN" if word == "open" else CATEGORY_WORDS.get(word) or CATEGORY_WORDS.get(word.rstrip("s"))
-    if found is None:
-        more = "; protected seats are the columns W to L" if any(it in word for it in DISABLED) else ""
-        findings.wrong(cell, ALLOWED["step"] + more)
-    elif cell.text not in (found, *OTHER_WORDS):
-        findings.read_as(cell, found)
-    return found
-
-
 class Tokens:
     """The tokens that the files give: each of the form, and each once."""
 
-    def __init__(self, findings):
+    def __init__(self, findings: Findings) -> None:
         self.findings, self.rows = findings, {}
 
-    def given(self, cell):
+    def given(self, cell: Cell) -> str:
         """Returns a token, or nothing if the field is empty."""
         if not cell.text:
             return ""
@@ -163,7 +39,7 @@ class Tokens:
         return cell.text
 
 
-# ---- the tables
+# ---- the settings
 
 
 class Season:
@@ -171,10 +47,10 @@ class Season:
 
     KEYS = ("rounds", "version", "clerk")
 
-    def __init__(self, folder, findings, tokens):
+    def __init__(self, folder: str, findings: Findings, tokens: Tokens) -> None:
         self.rounds, self.version, self.clerk = None, 1, ""
-        file, seen = "season.csv", {}
-        self.rows = read(folder, file, self.KEYS, findings)
+        file, self.rows = read_table(folder, "season", findings, self.KEYS)
+        seen: dict = {}
         for row, fields in self.rows or []:
             cells = [Cell(file, row, "", at, stripped(it)) for at, it in enumerate(fields)]
             key = cells[0].text.lower()
@@ -189,7 +65,7 @@ class Season:
         if self.rows is not None and "rounds" not in seen:
             findings.wrong_file(file, f"there is no row rounds,N; {ALLOWED['rounds']}")
 
-    def take(self, key, cell, findings, tokens):
+    def take(self, key: str, cell: Cell, findings: Findings, tokens: Tokens) -> None:
         if key == "rounds":
             self.rounds = number(cell, ROUNDS, ALLOWED["rounds"], findings)
         elif key == "clerk":
@@ -200,237 +76,338 @@ class Season:
             findings.wrong(cell, "the version of the rules is 1 or 2")
 
 
+# ---- the register
+
+
 class Candidate:
-    def __init__(self, row, id):
-        self.row, self.id = row, id
-        self.category, self.traits, self.token, self.places = None, "-", "", {}
+    """A row of the register."""
+
+    def __init__(self, row: int, id: Optional[int], application_number: str = "") -> None:
+        self.row, self.id, self.application = row, id, application_number
+        self.category, self.traits, self.token, self.name, self.state = None, "-", "", "", ""
+        self.places: dict = {}
+        # the merit lists in which the place was refused: other errors follow from that
+        self.refused: set = set()
+        self.is_refused = False
+
+    def called(self) -> str:
+        """Returns how a message names the candidate: by the board's number if there is one."""
+        return f"candidate {self.application or self.id}"
 
 
 class Register:
-    """The rows of register.csv, by the candidates' numbers."""
+    """The rows of the register, by the candidates' numbers. If the board has application numbers, the tool gives the numbers, the same ones at each call."""
 
-    FILE = "register.csv"
+    def __init__(self, table: Optional[Table], findings: Findings, tokens: Tokens, numbers: dict) -> None:
+        self.table, self.findings, self.tokens = table, findings, tokens
+        self.file = table.file if table else "register.csv"
+        self.people: dict = {}
+        self.by_key: dict = {}
+        self.rows: dict = {}
+        self.refused: set = set()
+        self.taken: dict = {}
+        self.remarks: list = []
+        self.ranked: dict = {}
+        if table:
+            self.read(table, numbers)
 
-    def __init__(self, folder, findings, tokens):
-        self.findings, self.tokens = findings, tokens
-        self.people, self.refused, self.taken = {}, set(), {}
-        self.table = table(folder, self.FILE, HEADERS["register"], findings)
-        if self.table:
-            self.table.knows(HEADERS["register"], ("id", "category", "traits"))
-            self.table.looks_beyond(len(self.table.names))
-            self.columns = {name: self.table.column(name) for name in HEADERS["register"]}
-            for row, fields in self.table.rows if self.columns["id"] is not None else []:
-                self.take(row, {name: self.table.cell(row, fields, at, name) for name, at in self.columns.items()})
-            if not self.table.rows:
-                findings.wrong_form(self.FILE, "there is no candidate")
-            if len(self.table.rows) > CANDIDATES.most:
-                findings.wrong_file(self.FILE, f"{len(self.table.rows):,} candidates are too many: at most {CANDIDATES.most:,}")
+    def read(self, table: Table, numbers: dict) -> None:
+        if table.is_by_words:
+            table.looks_beyond()
+        self.key = "application_number" if table.has("application_number") else "number"
+        self.ranked = {it: [] for it in self.lists_by_name() if set(lists_of(it, table)) != {it}}
+        for row, fields in table.rows:
+            self.take(row, fields)
+        if not table.rows:
+            self.findings.wrong_form(self.file, "there is no candidate")
+        if len(table.rows) > CANDIDATES.most:
+            self.findings.wrong_file(self.file, f"{len(table.rows):,} candidates are too many: at most {CANDIDATES.most:,}")
+        self.give_numbers(numbers)
+        for name, people in self.ranked.items():
+            self.remarks += give_places(name, people, self.findings, self.file)
 
-    def has_list(self, number):
-        return self.table is None or self.columns.get(MERIT_LISTS[number - 1]) is not None
+    def lists_by_name(self) -> list:
+        return [it for it in MERIT_LISTS if lists_of(it, self.table)] if self.table else []
 
-    def take(self, row, cells):
-        id = number(cells["id"], NUMBER, ALLOWED["id"], self.findings)
-        one = Candidate(row, id)
-        if id is None:
-            self.refused.add(cells["id"].text)
-        elif id in self.people:
-            self.findings.wrong(cells["id"], f"row {self.people[id].row} has this candidate too")
+    def lists(self) -> list:
+        """Returns the numbers of the merit lists of which the register has a column."""
+        return [MERIT_LISTS.index(it) + 1 for it in self.lists_by_name()]
+
+    def has_list(self, number_of_list: int) -> bool:
+        return self.table is None or MERIT_LISTS[number_of_list - 1] in self.lists_by_name()
+
+    def give_numbers(self, numbers: dict) -> None:
+        """Numbers candidates with application numbers: by an earlier call, and the others behind these in the order of the register."""
+        following = max(numbers.values(), default=0) + 1
+        for key, one in self.by_key.items():
+            if self.key == "application_number":
+                one.id = numbers.get(key)
+                if one.id is None:
+                    one.id, following = following, following + 1
+            self.people[one.id] = one
+
+    # ---- rows
+
+    def key_of(self, cell: Cell) -> Any:
+        """Returns the number by which a candidate is known, or None."""
+        if self.key == "number":
+            return number(cell, NUMBER, ALLOWED["id"], self.findings)
+        return application(cell, self.findings)
+
+    def take(self, row: int, fields: list) -> None:
+        table = self.table
+        cell = table.cell(row, fields, self.key)
+        key = self.key_of(cell)
+        one = Candidate(row, key if self.key == "number" else None, key if self.key != "number" and key else "")
+        if key is None:
+            self.refused.add(cell.text)
+        elif key in self.rows:
+            self.look_at_twice(cell, key, fields)
+            return
         else:
-            self.people[id] = one
-        one.category, disabled = category(cells["category"], self.findings) if self.columns["category"] is not None else (None, "")
-        found = traits(cells["traits"], self.findings)
-        one.traits = "".join(it for it in TRAITS if it in found + disabled) or "-"
-        one.token = self.tokens.given(cells["token"])
+            self.rows[key], self.by_key[key] = (row, fields), one
+        one.name = table.cell(row, fields, "name").text
+        before = self.findings.count()
+        one.category, disabled = category(table.cell(row, fields, "category"), self.findings) if table.has("category") else (None, "")
+        one.traits = self.traits_of(row, fields, disabled)
+        one.token = self.tokens.given(table.cell(row, fields, "token"))
+        one.state = state(table.cell(row, fields, "state"), self.findings)
         for name in MERIT_LISTS:
-            self.take_place(one, name, cells[name])
+            if name in self.ranked:
+                self.ranked[name].append(read_ranks(one, name, cells_of(table, row, fields, name), self.findings))
+            elif table.has(name):
+                self.take_place(one, name, table.cell(row, fields, name))
+        one.is_refused = self.findings.count() > before
 
-    def take_place(self, one, name, cell):
+    def look_at_twice(self, cell: Cell, key: Any, fields: list) -> None:
+        """Reports a candidate with two rows: whether they differ, and in what."""
+        row, first = self.rows[key]
+        differ = []
+        for meaning, at in sorted(self.table.means.items(), key=lambda it: it[1]):
+            one, other = (stripped(it[at]) if at < len(it) else "" for it in (first, fields))
+            if one != other and meaning != self.key:
+                differ.append(f"{self.table.name(at)}" if meaning == "token" else f"{self.table.name(at)} (`{one:.30}` there, `{other:.30}` here)")
+        if differ:
+            self.findings.wrong(cell, f"row {row} has this candidate too; the rows differ in {listed(differ, 'and')}")
+        else:
+            self.findings.doubts("twice", ASKS_TWICE, cell, f"row {row} has the same")
+
+    def traits_of(self, row: int, fields: list, disabled: str) -> str:
+        """Returns the traits of all columns that have some."""
+        table, found = self.table, [disabled]
+        if table.has("traits"):
+            found.append(traits(table.cell(row, fields, "traits"), self.findings))
+        if table.has("gender"):
+            found.append(gender(table.cell(row, fields, "gender"), self.findings))
+        if table.has("disability"):
+            found.append(has_trait(table.cell(row, fields, "disability"), "D", self.findings))
+        found += [has_trait(table.cell(row, fields, it), it, self.findings) for it in TRAITS if table.has(it)]
+        return "".join(it for it in TRAITS if it in "".join(found)) or "-"
+
+    def take_place(self, one: Candidate, name: str, cell: Cell) -> None:
+        before = self.findings.count()
         found = place(cell, self.findings)
         if not found:
+            if self.findings.count() > before:
+                one.refused.add(name)
             return
         one.places[name] = found
         other = self.taken.setdefault((name, found.rstrip("R")), one)
         if other is not one:
-            self.findings.wrong(cell, f"row {other.row} (candidate {other.id}) has this place too; in one list all places differ")
+            self.findings.wrong(cell, f"row {other.row} ({other.called()}) has this place too; in one list all places differ")
         if found.endswith("R") and one.category == "GEN":
             self.findings.wrong(cell, "a candidate of the category GEN has no relaxed place")
 
+    # ---- what the choices ask
 
-class Programme:
-    def __init__(self, row, institute, merit):
-        self.row, self.institute, self.merit, self.steps = row, institute, merit, {}
+    def find(self, cell: Cell) -> Optional[Candidate]:
+        """Returns the candidate whom a row of the choices names, or None; a candidate whose row was refused is reported there alone."""
+        if self.table is None or cell.text in self.refused:
+            return None
+        key = self.key_of(cell)
+        if key is None or key in self.by_key:
+            return self.by_key.get(key)
+        near = self.near(str(key))
+        self.findings.wrong(cell, f"{self.file} has no such candidate{f'; it has {near}: a spreadsheet program drops zeros at the beginning' if near else ''}")
+        return None
+
+    def near(self, key: str) -> Optional[str]:
+        if not hasattr(self, "without_zeros"):
+            self.without_zeros = {str(it).lstrip("0"): it for it in self.by_key}
+        return self.without_zeros.get(key.lstrip("0"))
 
 
-class Matrix:
-    """The rows of matrix.csv, by programme and step."""
-
-    FILE = "matrix.csv"
-
-    def __init__(self, folder, findings, register):
-        self.findings, self.programmes, self.rows, self.refused, self.by_letters = findings, {}, [], set(), {}
-        self.table = table(folder, self.FILE, [it.lower() for it in HEADERS["matrix"]], findings)
-        if not self.table:
-            return
-        names = [it.lower() for it in HEADERS["matrix"]]
-        self.table.knows(names, names[:5])
-        self.table.looks_beyond(len(self.table.names))
-        self.columns = {name: self.table.column(name.lower()) for name in HEADERS["matrix"]}
-        for row, fields in self.table.rows if None not in [self.columns[it] for it in names[:5]] else []:
-            self.take({name: self.table.cell(row, fields, at, name) for name, at in self.columns.items()})
-        if not self.table.rows:
-            findings.wrong_form(self.FILE, "there is no programme")
-        self.looks_at_sums()
-        for merit in sorted({it.merit for it in self.programmes.values() if it.merit}):
-            if not register.has_list(merit):
-                findings.wrong_form(register.FILE, f"there is no column m{merit}, and {self.FILE} has programmes with merit list {merit}")
-
-    def take(self, cells):
-        name, institute = code(cells["programme"], self.findings), code(cells["institute"], self.findings)
-        merit = number(cells["list"], LISTS, ALLOWED["list"], self.findings)
-        of, seats = step(cells["step"], self.findings), number(cells["seats"], SEATS, ALLOWED["seats"], self.findings)
-        protected = [number(cells[it], SEATS, ALLOWED["protection"], self.findings) if cells[it].text else 0 for it in TRAITS]
-        if seats is not None and None not in protected and sum(protected) > seats:
-            self.findings.wrong(cells["seats"], f"{sum(protected)} seats are protected in the columns W to L, more than there are")
-        if name is None:
-            self.refused.add(cells["programme"].text)
-            return
-        known = self.programmes.setdefault(name, Programme(cells["programme"].row, institute, merit))
-        if institute and known.institute and institute != known.institute:
-            self.findings.wrong(cells["institute"], f"row {known.row} has programme {name} at institute {known.institute}")
-        if merit and known.merit and merit != known.merit:
-            self.findings.wrong(cells["list"], f"row {known.row} has programme {name} with merit list {known.merit}")
-        if of in known.steps:
-            self.findings.wrong(cells["step"], f"row {known.steps[of][0]} has the {of} seats of programme {name} too")
-        elif of:
-            known.steps[of] = (cells["step"].row, seats or 0)
-            self.rows.append((name, institute, merit, of, seats, *(protected if None not in protected else [])))
-
-    def near(self, name):
-        """Returns the code that differs from this one only in case, if there is one."""
-        if not self.by_letters:
-            self.by_letters.update((it.lower(), it) for it in self.programmes)
-        return self.by_letters.get(name.lower())
-
-    def looks_at_sums(self):
-        if len(self.programmes) > PROGRAMMES.most:
-            self.findings.wrong_file(self.FILE, f"{len(self.programmes):,} programmes are too many: at most {PROGRAMMES.most:,}")
-        seats = sum(count for it in self.programmes.values() for _, count in it.steps.values())
-        if seats > ALL_SEATS.most:
-            self.findings.wrong_file(self.FILE, f"{seats:,} seats are too many: at most {ALL_SEATS.most:,} in all")
+# ---- the choices
 
 
 class Choices:
-    """The rows of choices.csv: each candidate's programmes, the most wanted first. A row is a candidate, or one choice of a candidate."""
+    """The rows of the choices: each candidate's programmes, the most wanted first. A row is a candidate, or one choice of a candidate."""
 
-    FILE = "choices.csv"
-
-    def __init__(self, folder, findings, register, matrix):
-        self.findings, self.register, self.matrix = findings, register, matrix
-        self.lists, self.rows, self.ranks = {}, {}, {}
-        self.table = table(folder, self.FILE, ("candidate", "programmes", "preference", "programme"), findings)
-        if not self.table:
+    def __init__(self, table: Optional[Table], findings: Findings, register: Register, matrix: Matrix) -> None:
+        self.table, self.findings, self.register, self.matrix = table, findings, register, matrix
+        self.lists: dict = {}
+        self.rows: dict = {}
+        self.known: dict = {}
+        if not table:
             return
-        self.by_choice = "preference" in self.table.names or "programme" in self.table.names and "programmes" not in self.table.names
+        self.file = table.file
         self.take_all()
         self.lists = {id: [name for name, _ in found] for id, found in self.lists.items()}
         count = sum(map(len, self.lists.values()))
         if count > ALL_CHOICES.most:
-            findings.wrong_file(self.FILE, f"{count:,} choices are too many: at most {ALL_CHOICES.most:,} in all")
+            findings.wrong_file(self.file, f"{count:,} choices are too many: at most {ALL_CHOICES.most:,} in all")
 
-    def take_all(self):
-        if self.by_choice:
-            names = ("candidate", "preference", "programme")
-            self.table.knows(names, names)
-            self.table.looks_beyond(len(self.table.names))
-            if all(it in self.table.names for it in names):
-                self.take_by_choice(*map(self.table.column, names))
+    def take_all(self) -> None:
+        table = self.table
+        numbered = sorted((int(found[1]), at) for it, at in table.means.items() for found in [CHOICE.fullmatch(it)] if found)
+        if numbered:
+            self.take_wide([at for _, at in numbered])
+        elif table.is_by_words and table.has("programmes") and not table.has("preference"):
+            self.take_wide(self.wide_columns())
+        elif table.has("programmes"):
+            self.take_joined()
         else:
-            self.table.knows(("candidate", "programmes"), ("candidate", "programmes"))
-            if {"candidate", "programmes"} <= {*self.table.names}:
-                self.take_wide(self.table.column("candidate"), self.wide_columns())
+            if table.is_by_words:
+                table.looks_beyond()
+            self.take_by_choice()
 
-    def wide_columns(self):
+    def wide_columns(self) -> list:
         """Returns the columns of choices: `programmes`, and to its right those without a name or with a number in it."""
-        first = self.table.column("programmes")
-        found = [at for at in range(first, len(self.table.names)) if at == first or not self.table.names[at] or re.fullmatch(r"(programmes?|choice|preference)?[ _-]?[0-9]+", self.table.names[at])]
-        self.table.left_out = [it for it in self.table.left_out if it not in found]
-        return [*found, *range(len(self.table.names), max((len(it) for _, it in self.table.rows), default=0))]
+        table = self.table
+        first, names = table.means["programmes"], [it.lower() for it in table.header.names]
+        found = [at for at in range(first, len(names)) if at == first or not names[at] or re.fullmatch(r"(programmes?|choice|preference)?[ _-]?[0-9]+", names[at])]
+        table.left_out = [it for it in table.left_out if it not in found]
+        return [*found, *range(len(names), max((len(it) for _, it in table.rows), default=0))]
 
-    def candidate(self, cell):
-        """Returns the number of a candidate of the register, or None."""
-        id = number(cell, NUMBER, ALLOWED["id"], self.findings) if cell.text not in self.register.refused else None
-        if id is not None and id not in self.register.people and self.register.table:
-            self.findings.wrong(cell, f"{self.register.FILE} has no such candidate")
-            return None
-        return id
+    def candidate(self, row: int, fields: list) -> tuple:
+        """Returns the field of a row with the candidate, and the candidate, or None if the register has none."""
+        cell = self.table.cell(row, fields, "candidate")
+        return cell, self.register.find(cell)
 
-    def take_wide(self, of, columns):
+    def is_first(self, one: Candidate, row: int, cell: Cell) -> bool:
+        """Returns whether this is the first row of a candidate with all choices; reports another one."""
+        if self.rows.setdefault(one.id, row) != row:
+            self.findings.wrong(cell, f"row {self.rows[one.id]} has the choices of this candidate too")
+        return self.rows[one.id] == row
+
+    def take_wide(self, columns: list) -> None:
+        """Takes rows with one choice in each column."""
         for row, fields in self.table.rows:
-            cell = self.table.cell(row, fields, of, "candidate")
-            id = self.candidate(cell)
-            if id is None:
+            cell, one = self.candidate(row, fields)
+            if one is None or not self.is_first(one, row, cell):
                 continue
-            if self.rows.setdefault(id, row) != row:
-                self.findings.wrong(cell, f"row {self.rows[id]} has the choices of this candidate too")
-                continue
-            cells = [self.table.cell(row, fields, at, "") for at in columns]
+            cells = [self.table.field(row, fields, at, "" if self.table.is_by_words else self.table.name(at)) for at in columns]
             while cells and not cells[-1].text:
                 cells.pop()
             ranks = [rank for rank, it in enumerate(cells, 1) if it.text]
             if len(ranks) < len(cells):
-                self.asks_of_gaps(id, ranks, next(it for it in cells if not it.text))
-            self.take(id, [it for it in cells if it.text])
+                self.asks_of_gaps(one, ranks, next(it for it in cells if not it.text))
+            self.take(one, [it for it in cells if it.text])
 
-    def take_by_choice(self, of, preference, programme):
-        found = {}
+    def take_joined(self) -> None:
+        """Takes rows with all choices in one field, with semicolons, bars or ends of lines between them."""
         for row, fields in self.table.rows:
-            id = self.candidate(self.table.cell(row, fields, of, "candidate"))
-            rank_cell = self.table.cell(row, fields, preference, "preference")
-            rank = number(rank_cell, NUMBER, "a preference is a number from 1 on, and the most wanted programme has 1", self.findings)
-            cell = self.table.cell(row, fields, programme, "programme")
-            if id is None or rank is None:
+            cell, one = self.candidate(row, fields)
+            if one is not None and self.is_first(one, row, cell):
+                whole = self.table.cell(row, fields, "programmes")
+                parts = re.split(r"[;|\n]" if re.search(r"[;|\n]", whole.text) else ",", whole.text)
+                parts = [re.sub(r"^\s*[0-9]+\s*[.)]\s*", "", it) for it in parts]
+                self.take(one, [whole._replace(text=stripped(it)) for it in parts if stripped(it)])
+
+    def take_by_choice(self) -> None:
+        """Takes rows with one choice each, in any order."""
+        table, found, who = self.table, {}, {}
+        for row, fields in table.rows:
+            _, one = self.candidate(row, fields)
+            if table.has("preference"):
+                rank_cell = table.cell(row, fields, "preference")
+                rank = number(rank_cell, NUMBER, PREFERENCE, self.findings)
+            elif one is not None:
+                rank_cell, rank = table.cell(row, fields, "programme"), len(found.get(one.id, ())) + 1
+            cell = self.with_institute(row, fields)
+            if one is None or rank is None:
                 continue
-            other = found.setdefault(id, {}).setdefault(rank, cell)
+            who[one.id] = one
+            other = found.setdefault(one.id, {}).setdefault(rank, cell)
             if other is not cell:
                 self.findings.wrong(rank_cell, f"row {other.row} has preference {rank} of this candidate too")
         for id, cells in found.items():
             ranks = sorted(cells)
             late = next((it for at, it in enumerate(ranks, 1) if it != at), None)
             if late:
-                self.asks_of_gaps(id, ranks, cells[late])
-            self.take(id, [cells[it] for it in ranks])
+                self.asks_of_gaps(who[id], ranks, cells[late])
+            self.take(who[id], [cells[it] for it in ranks])
 
-    def asks_of_gaps(self, id, ranks, cell):
+    def with_institute(self, row: int, fields: list) -> Cell:
+        """Returns the field of a row with the programme, and with the institute before it if that is a column of its own."""
+        cell, institute = self.table.cell(row, fields, "programme"), self.table.cell(row, fields, "institute")
+        return cell._replace(text=f"{institute.text} {cell.text}") if institute.text and cell.text not in self.matrix.choosable() else cell
+
+    def asks_of_gaps(self, one: Candidate, ranks: list, cell: Cell) -> None:
         """Asks about the preferences that a candidate has not filled, and names the first ten gaps."""
-        self.findings.doubts("gaps", ASKS_GAPS, cell, f"candidate {id} has no preference {listed(missing_of(ranks)[:10])}")
+        self.findings.doubts("gaps", ASKS_GAPS, cell, f"{one.called()} has no preference {listed(missing_of(ranks)[:10])}")
 
-    def take(self, id, cells):
+    # ---- one list
+
+    def take(self, one: Candidate, cells: Iterable) -> None:
         """Takes the list of a candidate, programme by programme."""
-        found = self.lists.setdefault(id, [])
+        cells = [*cells]
+        found = self.lists.setdefault(one.id, [])
         if len(cells) > CHOICES.most:
-            self.findings.wrong(cells[CHOICES.most], f"the list of candidate {id} has {len(cells):,} programmes: at most {CHOICES.most:,}")
+            self.findings.wrong(cells[CHOICES.most], f"the list of {one.called()} has {len(cells):,} programmes: at most {CHOICES.most:,}")
         for cell in cells:
-            if cell.text in self.matrix.refused:
-                continue
-            name = code(cell, self.findings)
-            if name is not None and self.is_sought(id, name, cell, found):
+            name = self.programme(cell)
+            if name is not None and self.is_sought(one, name, cell, found):
                 found.append((name, cell))
 
-    def is_sought(self, id, name, cell, found):
+    def programme(self, cell: Cell) -> Optional[str]:
+        """Returns the code of the programme that a choice names, by code or in words, or None; an error of the matrix is not reported again."""
+        matrix = self.matrix
+        if not matrix.is_read or cell.text in matrix.refused:
+            return None
+        if cell.text in matrix.choosable():
+            return cell.text
+        if cell.text not in self.known:
+            self.known[cell.text] = [it for it in matrix.named(cell.text) if it in matrix.choosable()]
+        named = self.known[cell.text]
+        if len(named) == 1:
+            self.findings.read_as(cell, named[0], "programmes in other words than their codes")
+            return named[0]
+        if named:
+            self.findings.wrong(cell, f"{len(named)} programmes are called so: {listed(named, 'and')}; write one of these codes, or the institute too")
+        elif matrix.words and not is_code(cell.text) and not re.fullmatch(r"[0-9]+\.0+", cell.text):
+            near = difflib.get_close_matches(bare(cell.text), matrix.words, 1, LIKE)
+            self.findings.wrong(cell, f"{matrix.table.file} has no programme that is called so{f'; it has {next(iter(matrix.words[near[0]]))} by like words' if near else ''}")
+        else:
+            return self.by_code(cell)
+        return None
+
+    def by_code(self, cell: Cell) -> Optional[str]:
+        """Returns a code as the matrix has it, or None, and reports why."""
+        name, matrix = code(cell, self.findings), self.matrix
+        if name is None or name in matrix.choosable():
+            return name
+        base = name.rpartition("-")[0]
+        if base in matrix.units:
+            self.findings.wrong(cell, f"a choice names the programme and never one of its units: write {base}")
+            return None
+        near = matrix.near(name)
+        self.findings.wrong(cell, f"{matrix.table.file} has no programme of this code{f'; it has {near}' if near else ''}")
+        return None
+
+    def is_sought(self, one: Candidate, name: str, cell: Cell, found: list) -> bool:
         """Returns whether the candidate may list the programme here; reports why not."""
-        of = self.matrix.programmes.get(name)
-        if of is None:
-            near = self.matrix.near(name)
-            if self.matrix.table:
-                self.findings.wrong(cell, f"{self.matrix.FILE} has no programme of this code{f'; it has {near}' if near else ''}")
-            return False
-        twice = next((other for listed, other in found if listed == name), None)
+        of = self.matrix.choosable()[name]
+        twice = next((other for listed_name, other in found if listed_name == name), None)
         if twice:
-            self.findings.wrong(cell, f"candidate {id} lists this programme twice: also in row {twice.row}, column {letters(twice.at)}")
+            self.findings.wrong(cell, f"{one.called()} lists this programme twice: also in row {twice.row}, column {letters(twice.at)}")
             return False
-        one = self.register.people.get(id)
-        if of.merit and one and MERIT_LISTS[of.merit - 1] not in one.places:
-            self.findings.wrong(cell, f"candidate {id} has no place in m{of.merit}, the merit list of this programme ({self.register.FILE}, row {one.row})")
+        merit = MERIT_LISTS[of.merit - 1] if of.merit else None
+        if merit and merit not in one.places:
+            if merit not in one.refused:
+                self.findings.wrong(cell, f"{one.called()} has no place in {merit}, the merit list of this programme ({self.register.file}, row {one.row})")
+            return False
+        if name in self.matrix.units and not one.state and self.register.table.has("state"):
+            self.findings.wrong(cell, f"{one.called()} has no state, and this programme is divided by state ({self.register.file}, row {one.row})")
             return False
         return True

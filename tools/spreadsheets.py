@@ -1,21 +1,26 @@
-"""Reads the files that a spreadsheet writes, and collects everything that is wrong or unusual in them; tools/season and deploy/announce use it."""
+"""Reads the files that a spreadsheet writes, and collects everything that is wrong or unusual in them; tools/season uses it."""
 import collections
 import csv
 import io
+import os
 import re
 import sys
-from typing import NamedTuple
+from typing import Iterable, NamedTuple, Optional
 
+import books
 from formats import TOKEN, listed
 
-# blanks that people do not see: no-break space, zero-width signs, byte order mark
-UNSEEN = "\u00a0\u200b\u200c\u200d\u2060\ufeff"
+# signs that people do not see: no-break space, zero-width signs, byte order mark, marks of direction, soft hyphen
+UNSEEN = "\u00a0\u00ad\u200b\u200c\u200d\u200e\u200f\u202a\u202b\u202c\u202d\u202e\u2060\u2066\u2067\u2068\u2069\ufeff"
 DELIMITERS = ",;\t"
 NAMES = {",": "commas", ";": "semicolons", "\t": "tabs"}
 BOOKS = {b"PK\x03\x04": "a workbook", b"\xd0\xcf\x11\xe0": "an old workbook"}
+ENDINGS = (".csv", *books.LIBRARIES)
+# examples in a line of messages, and signs of a value that are shown
+EXAMPLES, SHOWN = 5, 60
 
 
-def letters(at):
+def letters(at: int) -> str:
     """Returns the letters by which a spreadsheet calls its column, counted from 0."""
     name = ""
     at += 1
@@ -25,8 +30,24 @@ def letters(at):
     return name
 
 
-def stripped(text):
+def stripped(text: str) -> str:
     return text.strip().strip(UNSEEN + " \t").strip()
+
+
+def shown(text: str) -> str:
+    """Returns a value for a message: signs that nobody sees are named, and a long value is cut."""
+    seen = "".join(f"<U+{ord(it):04X}>" if it in UNSEEN or not it.isprintable() else it for it in text)
+    return f"`{seen[:SHOWN]}`.." if len(seen) > SHOWN else f"`{seen}`"
+
+
+def counted(count: int, what: str) -> str:
+    return f"{count:,} {what}{'s' * (count != 1)}"
+
+
+def some(items: Iterable, most: int = 10) -> str:
+    """Joins the first items, and says how many more there are."""
+    words = [str(it) for it in items]
+    return ", ".join(words[:most]) + (f" and {len(words) - most:,} more" if len(words) > most else "")
 
 
 class Cell(NamedTuple):
@@ -38,105 +59,142 @@ class Cell(NamedTuple):
     at: int
     text: str
 
-    def place(self):
-        name = f"{self.column} ({letters(self.at)})" if self.column else letters(self.at)
-        return f"{self.file}, row {self.row}, column {name}"
+    def of(self) -> str:
+        """Returns the column, by its name and its letters."""
+        return f"{self.column} ({letters(self.at)})" if self.column else letters(self.at)
 
-    def value(self):
-        return f"`{self.text:.60}`" if self.text else "nothing"
+    def place(self) -> str:
+        return f"{self.file}, row {self.row}, column {self.of()}"
+
+    def value(self) -> str:
+        return shown(self.text) if self.text else "nothing"
+
+
+class Error(NamedTuple):
+    """What is wrong with one field: the field, its value as it may be shown, and why."""
+
+    cell: Cell
+    value: str
+    why: str
+
+    def line(self) -> str:
+        return f"{self.cell.place()}: {self.value}: {self.why}"
 
 
 class Findings:
     """What the files have: errors, questions that a person has to answer, spellings that were read as others, and remarks."""
 
-    def __init__(self, answered):
-        self.causes, self.errors, self.questions, self.spellings, self.remarks = [], [], {}, collections.OrderedDict(), []
+    def __init__(self, answered: set) -> None:
+        self.causes: list = []
+        self.files: list = []
+        self.kinds: dict = {}
+        self.questions: dict = {}
+        self.spellings: dict = collections.OrderedDict()
+        self.remarks: list = []
         self.answered, self.asked = answered, {}
 
-    def wrong(self, cell, why, secret=False):
+    def wrong(self, cell: Cell, why: str, secret: bool = False) -> None:
         """Takes an error of one field. The value of a token is never shown."""
         value = f"a text of {len(cell.text)} signs" if secret else cell.value()
-        self.errors.append((f"{cell.file} {cell.column} {re.sub('[0-9]+', '', why)}", f"{cell.place()}: {value}: {why}"))
+        kind = re.sub(r"`[^`]*`|[0-9]+|\b[A-Z][A-Z0-9-]*\b", "", why.partition(";")[0])
+        self.kinds.setdefault((cell.file, kind), []).append(Error(cell, value, why))
 
-    def wrong_file(self, file, why):
-        self.errors.append((f"{file} {why}", f"{file}: {why}"))
+    def wrong_file(self, file: str, why: str) -> None:
+        self.files.append(f"{file}: {why}")
 
-    def wrong_form(self, file, why):
+    def wrong_form(self, file: str, why: str) -> None:
         """Takes an error of a whole file that other errors may follow from, such as a missing column. It is reported before these, and without them."""
         self.causes.append(f"{file}: {why}")
 
-    def doubts(self, name, question, cell, note=""):
+    def doubts(self, name: str, question: str, cell: Cell, note: str = "") -> bool:
         """Takes a doubt that a question names; returns whether the words of the call answered it with yes."""
         self.asked[name] = question
         if name in self.answered or "all" in self.answered:
             return True
-        self.questions.setdefault(name, []).append(f"{cell.place()}: {cell.value()}{f': {note}' if note else ''}")
+        self.questions.setdefault(name, []).append((cell, note))
         return False
 
-    def read_as(self, cell, value, kind=None):
+    def read_as(self, cell: Cell, value: object, kind: Optional[str] = None) -> None:
         """Notes that a field was written otherwise than the office spells it."""
-        example = f"`{cell.text:.60}` as {value}"
+        example = f"{shown(cell.text)} as {value}"
         key = (cell.file, cell.column, kind or example)
         count, first, example = self.spellings.get(key, (0, cell.row, example))
         self.spellings[key] = (count + 1, first, example)
 
-    def is_clean(self):
-        return not self.causes and not self.errors and not self.questions
+    def count(self) -> int:
+        return len(self.files) + sum(map(len, self.kinds.values()))
+
+    def is_clean(self) -> bool:
+        return not self.causes and not self.count() and not self.questions
+
+
+def in_one_line(found: list) -> str:
+    """Returns errors of one kind as one line: how many fields, in which rows, with which values, and why."""
+    first = found[0].cell
+    values = collections.Counter(it.value for it in found)
+    most = [value if count == 1 else f"{value} ({count:,} times)" for value, count in values.most_common()]
+    rows = some(dict.fromkeys(it.cell.row for it in found), EXAMPLES)
+    columns = "" if len({it.cell.at for it in found}) == 1 else " and others"
+    return f"{first.file}, column {first.of()}{columns}: {len(found):,} fields, in rows {rows}: {some(most, EXAMPLES)}: {found[0].why}"
+
+
+# ---- tables
+
+
+class Header(NamedTuple):
+    """The header of a table: the row or the two rows in which it is, and the name of each column."""
+
+    rows: tuple
+    names: list
+
+    def where(self) -> str:
+        return f"row {self.rows[0]}" if len(self.rows) == 1 else f"rows {self.rows[0]} and {self.rows[1]}"
 
 
 class Table:
-    """A spreadsheet that was read: its rows, and which of its columns are known."""
+    """A spreadsheet that was read: its rows, and what each of its columns means. A column without a meaning is left out."""
 
-    def __init__(self, file, findings, header, rows):
-        self.file, self.findings, self.header, self.rows = file, findings, header, rows
-        self.names = [stripped(it).lower() for it in header[1]]
-        self.left_out = []
+    def __init__(self, file: str, findings: Findings, header: Header, rows: list, means: dict) -> None:
+        self.file, self.findings, self.header, self.rows, self.means = file, findings, header, rows, means
+        self.left_out = [at for at, name in enumerate(header.names) if name and at not in means.values()]
+        # as the file writes them; in a table by its own words, those that are written otherwise are told
+        self.is_by_words = False
 
-    def column(self, name):
-        return self.names.index(name) if name in self.names else None
+    def has(self, meaning: str) -> bool:
+        return meaning in self.means
 
-    def cell(self, number, fields, at, name):
-        """Returns a field of a row; a column that is missing is empty."""
+    def name(self, at: int) -> str:
+        return self.header.names[at] if at < len(self.header.names) else ""
+
+    def cell(self, number: int, fields: list, meaning: str) -> Cell:
+        """Returns the field of a row that has a meaning; a column that is missing is empty."""
+        at = self.means.get(meaning)
+        name = self.name(at) if at is not None else meaning
+        if self.is_by_words:
+            name = meaning if name.lower() == meaning.lower() else name.lower()
+        return self.field(number, fields, at, name)
+
+    def field(self, number: int, fields: list, at: Optional[int], name: str) -> Cell:
         written = fields[at] if at is not None and at < len(fields) else ""
         cell = Cell(self.file, number, name, at or 0, stripped(written))
         if cell.text != written and cell.text:
-            self.findings.read_as(cell._replace(text=written), f"`{cell.text:.60}`", "fields with blanks around them")
+            self.findings.read_as(cell._replace(text=written), shown(cell.text), "fields with blanks around them")
         return cell
 
-    def knows(self, names, needed):
-        """Looks at the header: reports needed columns that are missing and repeated ones; the others are left out."""
-        for name in names:
-            if self.names.count(name) > 1:
-                self.findings.wrong_form(self.file, f"two columns are called `{name}`")
-        missing = [it for it in needed if it not in self.names]
-        if not set(names) & set(self.names):
-            # this row may be a person's, so nothing of it is shown
-            self.findings.wrong_form(self.file, f"row {self.header[0]}: this row is the header, and names none of the columns; needed are {', '.join(needed)}, with commas, semicolons or tabs between them")
-            return
-        if missing:
-            there = "there is no column" if len(missing) == 1 else "there are no columns"
-            self.findings.wrong_form(self.file, f"row {self.header[0]}: {there} {listed((f'`{it}`' for it in missing), 'and')}; needed are {', '.join(needed)}")
-        for at, name in enumerate(self.names):
-            written = stripped(self.header[1][at])
-            if name in names and written not in (name, name.upper() if len(name) == 1 else name):
-                self.findings.remarks.append(f"{self.file}: column `{written}` is read as {name}")
-        self.left_out = [at for at, name in enumerate(self.names) if name and name not in names]
-
-    def tells_left_out(self):
+    def tells_left_out(self) -> list:
         """Returns the lines of the report on columns that were not read."""
-        named = [stripped(self.header[1][at]) for at in self.left_out]
+        named = [self.header.names[at] for at in self.left_out]
         lines = [f"{self.file}: left out: {', '.join(named)}"] if named else []
         if any(re.fullmatch("gender|sex", it.lower()) for it in named):
-            is_of_seats = "seats" in self.names
-            lines.append(f"{self.file}: the office reads no gender: {'seats for women are in the column W of their step' if is_of_seats else 'women have the trait W in the column traits'}")
+            lines.append(f"{self.file}: the office reads no gender: {'seats for women are in the column W of their step' if self.has('seats') else 'women have the trait W in the column traits'}")
         return lines
 
-    def looks_beyond(self, last):
+    def looks_beyond(self) -> None:
         """Reports fields in columns without a name."""
         for number, fields in self.rows:
             for at, field in enumerate(fields):
                 text = stripped(field)
-                if text and (at >= last or not self.names[at]):
+                if text and not self.name(at) and at not in self.means.values():
                     may_be_token = TOKEN.has(len(text)) and text.isalnum()
                     self.findings.wrong(Cell(self.file, number, "", at, text), "this column has no name in the header", secret=may_be_token)
 
@@ -144,8 +202,8 @@ class Table:
 # ---- from bytes to rows
 
 
-def text_of(file, data, findings):
-    """Returns the text of a file, or None if it is none: UTF-8, UTF-16 with or without its mark, or Windows-1252."""
+def text_of(file: str, data: bytes, findings: Findings) -> Optional[str]:
+    """Returns the text of a file, or None if it is none: UTF-8, UTF-16 with or without its mark, or letters of one byte."""
     book = next((name for mark, name in BOOKS.items() if data.startswith(mark)), None)
     if book:
         findings.wrong_form(file, f"this is {book} and no CSV: save it as CSV UTF-8 in the spreadsheet program")
@@ -161,11 +219,11 @@ def text_of(file, data, findings):
         if wide:
             findings.wrong_form(file, "it begins as UTF-16 and has no whole letters: save it anew as CSV UTF-8")
             return None
-    findings.remarks.append(f"{file}: it is not UTF-8, so it is read as Windows-1252; letters that this encoding lacks, as those of Hindi, are lost in it: save it as CSV UTF-8")
+    findings.remarks.append(f"{file}: it is not UTF-8; letters outside of ASCII are read as Windows writes them (cp1252), so look at the names, or save it anew as CSV UTF-8")
     return data.decode("cp1252", errors="replace")
 
 
-def records(text, delimiter):
+def records(text: str, delimiter: str) -> tuple:
     """Returns the records of a text, and the number of the first that cannot be read, or None."""
     csv.field_size_limit(sys.maxsize)
     found = []
@@ -177,27 +235,24 @@ def records(text, delimiter):
     return found, None
 
 
-def first_of(text, delimiter):
-    """Returns the first record that is not empty."""
-    return next((row for row in records(text[:20_000], delimiter)[0] if any(map(stripped, row))), [])
-
-
-def delimiter_of(text, known):
-    """Returns the sign between the fields: the one by which the first row has most known names."""
+def delimiter_of(text: str, known: Iterable = ()) -> tuple:
+    """Returns the sign between the fields, and the text after a line that names it: the one that gives the first rows most known names, and most fields."""
     named = re.match("sep=(.)\r?\n", text)
     if named:
         return named[1], text[named.end() :]
-    return max(DELIMITERS, key=lambda it: sum(stripped(name).lower() in known for name in first_of(text, it))), text
+    head = text[:20_000]
+
+    def fields(sign: str) -> tuple:
+        rows = [row for row in records(head, sign)[0][:20] if any(map(stripped, row))]
+        named = {stripped(it).lower() for row in rows[:1] for it in row}
+        return len(named & {*known}), sum(sum(map(bool, row)) - 1 for row in rows)
+
+    return max(DELIMITERS, key=fields), text
 
 
-def read(folder, file, known, findings):
-    """Returns the rows of a file that are not empty, each with its number in the spreadsheet, or None if it cannot be read."""
-    try:
-        with open(f"{folder}/{file}", "rb") as it:
-            text = text_of(file, it.read(), findings)
-    except OSError as why:
-        findings.wrong_form(file, f"it cannot be read: {why.strerror}")
-        return None
+def rows_of_text(file: str, data: bytes, findings: Findings, known: Iterable = ()) -> Optional[list]:
+    """Returns the rows of a file of text, each with its number, or None if it is none."""
+    text = text_of(file, data, findings)
     if text is None:
         return None
     delimiter, text = delimiter_of(text, known)
@@ -206,18 +261,90 @@ def read(folder, file, known, findings):
     found, bad = records(text, delimiter)
     if bad:
         findings.wrong_form(file, f"row {bad}: a quote is not closed, or something follows a closing quote; the rows after it were not read")
-    lost = [number for number, fields in enumerate(found, 1) if any("??" in it for it in fields)]
+    return found
+
+
+def rows_of_book(file: str, path: str, names: list, findings: Findings) -> Optional[list]:
+    """Returns the rows of a sheet of a workbook, or None if it cannot be read."""
+    try:
+        sheet, others = books.sheet_of(path, os.path.splitext(file)[1], names)
+    except books.NoBook as why:
+        findings.wrong_form(file, str(why))
+        return None
+    if others:
+        findings.remarks.append(f"{file}: read is the sheet {shown(sheet.name)}, and not {listed(map(shown, others), 'and')}")
+    return sheet.rows
+
+
+def file_of(folder: str, stem: str, findings: Findings) -> Optional[str]:
+    """Returns the name of the file of a table, or None if there is none; names what is there under another name."""
+    names = sorted(os.listdir(folder))
+    found = [stem + it for it in ENDINGS if stem + it in names]
+    if len(found) > 1:
+        findings.remarks.append(f"{found[0]} is read, and not {listed(found[1:], 'and')}")
+    if found:
+        return found[0]
+    near = [it for it in names if os.path.splitext(it)[0].lower() == stem]
+    there = f"; there is {listed(near, 'and')}: save it as {stem}.csv" if near else ""
+    findings.wrong_form(f"{stem}.csv", f"it cannot be read: No such file or directory{there}")
+    return None
+
+
+def read(folder: str, file: str, known: Iterable, findings: Findings) -> Optional[list]:
+    """Returns the rows of a named file of text that are not empty, each with its number in the spreadsheet, or None if it cannot be read."""
+    try:
+        with open(f"{folder}/{file}", "rb") as it:
+            found = rows_of_text(file, it.read(), findings, known)
+    except OSError as why:
+        findings.wrong_form(file, f"it cannot be read: {why.strerror}")
+        return None
+    rows = [(number, fields) for number, fields in enumerate(found or [], 1) if any(map(stripped, fields))]
+    tell_lost_letters(file, rows, findings)
+    return None if found is None else rows
+
+
+def read_table(folder: str, stem: str, findings: Findings, known: Iterable = (), sheet: str = "") -> tuple:
+    """Returns the name of the file of a table and its rows that are not empty, each with its number in the spreadsheet; the rows are None if it cannot be read."""
+    file = file_of(folder, stem, findings)
+    if file is None:
+        return f"{stem}.csv", None
+    if os.path.splitext(file)[1] not in books.LIBRARIES:
+        return file, read(folder, file, known, findings)
+    found = rows_of_book(file, f"{folder}/{file}", [sheet, stem], findings)
+    return file, None if found is None else [(number, fields) for number, fields in enumerate(found, 1) if any(map(stripped, fields))]
+
+
+def tell_lost_letters(file: str, rows: list, findings: Findings) -> None:
+    """Remarks on fields in which letters were lost when the file was saved: each became a question mark."""
+    lost = [(number, field) for number, fields in rows for field in fields if "??" in field or "\ufffd" in field]
     if lost:
-        findings.remarks.append(f"{file}: {len(lost)} row{'s have' if len(lost) > 1 else ' has'} `??`, first row {lost[0]}: a program that lacks letters writes `?` in their place, so look at the source")
-    return [(number, fields) for number, fields in enumerate(found, 1) if any(map(stripped, fields))]
+        findings.remarks.append(f"{file}: {counted(len(lost), 'field')} with `??`, first in row {lost[0][0]}: letters were lost when the file was saved, so save it anew as CSV UTF-8")
 
 
-def table(folder, file, known, findings):
-    """Returns a file with a header row, or None if it cannot be read."""
-    rows = read(folder, file, known, findings)
-    if rows is None:
-        return None
-    if not rows:
-        findings.wrong_form(file, "it is empty")
-        return None
-    return Table(file, findings, rows[0], rows[1:])
+# ---- writing
+
+
+def written(rows: Iterable, begin: str = "\ufeff") -> bytes:
+    """Returns rows as CSV with a byte order mark, by which a spreadsheet program knows that it is UTF-8."""
+    out = io.StringIO(newline="")
+    out.write(begin)
+    csv.writer(out).writerows(rows)
+    return out.getvalue().encode("utf-8", errors="replace")
+
+
+def put_file(path: str, data: bytes, mode: int = 0o600) -> None:
+    """Writes a file whole or not at all."""
+    part = f"{path}.part"
+    try:
+        with open(os.open(part, os.O_CREAT | os.O_WRONLY | os.O_TRUNC, mode), "wb") as it:
+            os.fchmod(it.fileno(), mode)
+            it.write(data)
+            it.flush()
+            os.fsync(it.fileno())
+        os.replace(part, path)
+    except OSError:
+        if os.path.exists(part):
+            os.remove(part)
+        raise
+
+
