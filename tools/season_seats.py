@@ -175,7 +175,7 @@ class Matrix:
         place = self.institutes.get(institute, "")
         if name:
             self.titles.setdefault(found, name)
-        texts = [f"{institute}{found}"] + ([name, f"{place}{name}", f"{name}{place}", f"{institute}{name}"] if name else [])
+        texts = [f"{institute}{found}"] + ([] if self.table.is_by_words else [found]) + ([name, f"{place}{name}", f"{name}{place}", f"{institute}{name}"] if name else [])
         texts += [f"{place}{found}"] if place else []
         for text in texts:
             if bare(text):
