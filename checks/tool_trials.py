@@ -16,6 +16,7 @@ import subprocess
 import sys
 import tempfile
 
+import board_trials
 import cases
 from plain_audit import verdict
 from plain_office import STEPS
@@ -88,6 +89,8 @@ def requests():
 
 # ---- written spreadsheets
 
+# up to that many drawn seasons, a tenth of the spoiled sheets is tried
+FEW = 10
 # what clerks get wrong most often: words of the name of at least one case each
 MISTAKES = ("semicolons", "quote", "UTF-16", "F for female", "DW", "PwD", "numbers of 12 digits", "repeated places", "unknown codes", "long choices")
 
@@ -321,6 +324,7 @@ def faults(count):
     with concurrent.futures.ThreadPoolExecutor(os.cpu_count()) as lanes:
         found = [*limits(), *requests(), *kinds(), *tokens(), *drawn(count), *explaining(), *without_program(), *explained(lanes)]
         found += [f"cases/tools/season.txt: no case is named after {it}" for it in MISTAKES if not any(it in case.name for case in others)]
+        found += [*board_trials.faults(), *(it for it in lanes.map(lambda trial: trial(), board_trials.spoiled()[:: 1 if count > FEW else 10]) if it)]
         return found + [it for it in lanes.map(lambda case: fault_of_case(case, every), [every, *others]) if it]
 
 
@@ -438,6 +442,7 @@ def trials(program, long):
             yield functools.partial(made_by_season, program, case.name, case.words)
     yield functools.partial(changed_list, program)
     yield functools.partial(broken_lists, program)
+    yield from board_trials.trials(program)
     bundles = [f"examples/{it}/bundle.txt" for it in ("three-windows", "everybody-moves-up")]
     for name in bundles:
         with open(f"{TOP}/{name}", "rb") as it:

@@ -11,9 +11,9 @@ from cases import SECONDS, first_difference
 
 TOP = os.path.dirname(os.path.dirname(os.path.realpath(__file__)))
 DOCUMENTS = ("README.md", "docs/TUTORIAL.md", "docs/CHECKING.md", "docs/CLERK.md", "docs/COURT.md")
-BEGINS = ("./office ", "echo ", "cat ", "sed ", "tools/", "rm ", "mkdir ")
+BEGINS = ("./office ", "echo ", "cat ", "sed ", "tools/", "rm ", "mkdir ", "cp ")
 # what ends by itself only after its connections, and forms with words behind them
-SKIPPED = re.compile(r"^\./office (serve|WORDS|try|--version)|^curl |^deploy/| {4}", re.M)
+SKIPPED = re.compile(r"^\./office (serve|WORDS|try|check units|--version)|^curl |^deploy/| {4}", re.M)
 
 
 def calls_of(text):

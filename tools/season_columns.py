@@ -19,13 +19,13 @@ RANKS = tuple(f"{name} {of}{end}" for name in MERIT_LISTS for of in ("category",
 WIDE = tuple(f"{step}{end}" for step in ("OPEN", *VERTICAL) for end in ("", " W", " PwD", " W PwD"))
 CHOICE = re.compile(r"choice ([1-9][0-9]{0,3})")
 MEANINGS = {
-    "register": ("number", "application_number", "name", "category", "traits", "gender", "disability", *TRAITS, "state", "token", *MERIT_LISTS, *RANKS),
+    "register": ("number", "application number", "name", "category", "traits", "gender", "disability", *TRAITS, "state", "token", *MERIT_LISTS, *RANKS),
     "matrix": ("programme", "programme name", "branch", "institute", "institute name", "list", "step", "seats", "quota", "home", "pool", "total", *TRAITS, *WIDE),
     "choices": ("candidate", "preference", "programme", "institute", "programmes"),
 }
 # the tool's own words for the columns, and the meanings behind them
 OWN = {
-    "register": {"id": "number", **{it: it for it in (*HEADERS["register"][1:], "number", "application_number", "name", "state")}},
+    "register": {"id": "number", **{it: it for it in (*HEADERS["register"][1:], "number", "application number", "name", "state")}},
     "matrix": {it.lower(): it for it in (*HEADERS["matrix"], "quota", "home")},
     "choices": {it: it for it in ("candidate", "programmes", "preference", "programme")},
 }
@@ -92,7 +92,7 @@ OF_RANK = {"rank", "ranks", "crl", "air", "merit", "place", "position"}
 OF_LIST = {"ews": "EWS", "obc": "OBC", "sc": "SC", "st": "ST", "category": "category", "cat": "category"}
 OF_DISABLED = {"pwd", "pwbd", "ph"}
 # of two columns that may mean the same, the one with this word: where Class XII was passed decides the home state
-PREFERRED = {"application_number": "application", "state": "eligibility"}
+PREFERRED = {"application number": "application", "state": "eligibility"}
 BY_ALL = {"no", "number", "list", "wise", "all", "india", "overall", "common", "general", "gen", "open", "ur", "in", "of", "the", "jee", "paper", "1", "2", "i", "ii", "b", "e", "be", "tech", "btech", "ncl"}
 OF_POOL = {"gender", "neutral", "only", "including", "supernumerary", "seats", "gen", "ncl", "pool"}
 
@@ -135,7 +135,7 @@ def meaning_of(table: str, heading: str, values: list, exams: dict) -> Optional[
         if table == "choices":
             return "candidate"
         is_short = all(re.fullmatch("[1-9][0-9]*", it) and NUMBER.has(int(it)) for it in values if it)
-        return "number" if is_short else "application_number"
+        return "number" if is_short else "application number"
     if table == "choices":
         numbered = re.fullmatch(r"(choice|preference|programme|program|option|pref|priority)?( no)? ?([1-9][0-9]{0,2})", name)
         if numbered:
@@ -196,7 +196,7 @@ def headings(rows: list, at: int, of_two: bool) -> Optional[Header]:
 def worth(table: str, found: dict) -> int:
     """Returns how much of what a table needs is found."""
     needs = {"register": ("category",), "matrix": (), "choices": ("candidate",)}[table]
-    more = {"register": ("number", "application_number"), "matrix": ("programme", "programme name", "branch"), "choices": ("programme", "programmes", "choice 1")}[table]
+    more = {"register": ("number", "application number"), "matrix": ("programme", "programme name", "branch"), "choices": ("programme", "programmes", "choice 1")}[table]
     return len(found) + 3 * sum(it in found for it in needs) + 3 * any(it in found for it in more)
 
 
@@ -222,7 +222,7 @@ def lacking(table: str, found: Iterable) -> list:
     """Returns what a table needs and does not have, in words."""
     has = {*found}
     if table == "register":
-        missing = [] if has & {"number", "application_number"} else ["number or application_number"]
+        missing = [] if has & {"number", "application number"} else ["number or application number"]
         missing += [] if "category" in has else ["category"]
         return missing + ([] if has & {*MERIT_LISTS, *RANKS} else ["a place or a rank, such as m1"])
     if table == "matrix":
@@ -258,7 +258,7 @@ def read_plans(folder: str, findings: Findings) -> dict:
         cells = [Cell(FILE, row, name, at, stripped(fields[at]) if at < len(fields) else "") for at, name in enumerate(HEADING)]
         table = cells[0].text.lower()
         if table not in MEANINGS:
-            findings.wrong(cells[0], f"a table is {listed(MEANINGS)}")
+            refuse(cells[0], f"a table is {listed(MEANINGS)}", findings)
             continue
         plan = plans.setdefault(table, Plan("", (), []))
         if cells[1].text.lower() == "sheet":
@@ -270,23 +270,28 @@ def read_plans(folder: str, findings: Findings) -> dict:
     return plans
 
 
+def refuse(cell: Cell, why: str, findings: Findings) -> None:
+    """Takes an error of a field of columns.csv. Other errors may follow from it, so it is reported first."""
+    findings.causes.append(f"{cell.place()}: {cell.value()}: {why}")
+
+
 def header_rows(cell: Cell, findings: Findings) -> tuple:
     found = tuple(map(int, re.findall("[0-9]+", cell.text)))
     if not (1 <= len(found) <= 2 and re.fullmatch(r"[0-9]+(\.0+)?(\s*(and|-|,|&|to)\s*[0-9]+)?", cell.text) and found == tuple(range(found[0], found[0] + len(found)))):
-        findings.wrong(cell, "the header is in one row, such as 3, or in two that follow each other, such as 3 and 4")
+        refuse(cell, "the header is in one row, such as 3, or in two that follow each other, such as 3 and 4", findings)
         return ()
     return found
 
 
 def meaning_in(table: str, cell: Cell, findings: Findings) -> str:
     """Returns the meaning that a field of columns.csv names, or nothing."""
-    text = " ".join(cell.text.split())
+    text = " ".join(cell.text.replace("_", " ").split())
     if text in ("", LEFT_OUT):
         return ""
     known = {it.lower(): it for it in MEANINGS[table]}
     found = known.get(text.lower()) or (text.lower() if table == "choices" and CHOICE.fullmatch(text.lower()) else None)
     if found is None:
-        findings.wrong(cell, f"a column of the {table} means {listed(shortly(table))}, or {LEFT_OUT} if it is left out")
+        refuse(cell, f"a column of the {table} means {listed(shortly(table))}, or {LEFT_OUT} if it is left out", findings)
         return ""
     return found
 
@@ -302,6 +307,8 @@ def by_plan(table: str, file: str, rows: list, plan: Plan, findings: Findings) -
     """Returns a sheet as columns.csv says that it is, or None if it is otherwise."""
     at = next((at for at, (number, _) in enumerate(rows) if (number,) == plan.header[:1]), None)
     header = headings(rows, at, len(plan.header) == 2) if at is not None else None
+    if header is None and not plan.header and findings.causes:
+        return None
     if header is None:
         findings.wrong_form(FILE, f"{table}: the header is in {listed([f'row {it}' for it in plan.header], 'and') if plan.header else 'no row'}, and {file} has none there; remove the rows of {table} from {FILE} for a new guess")
         return None
@@ -336,19 +343,19 @@ def column_of(header: Header, cells: list) -> Optional[int]:
 def by_words(table: str, file: str, rows: list, findings: Findings) -> Optional[Table]:
     """Returns a sheet whose first row names its columns by the tool's own words, or None if it does not."""
     names = [stripped(it) for it in rows[0][1]]
-    lower = [it.lower() for it in names]
+    lower = [it.lower().replace("_", " ") for it in names]
     own = OWN[table]
     known = [own.get(it) for it in lower]
     means = {meaning: at for at, meaning in reversed([*enumerate(known)]) if meaning}
     needed = LONG if table == "choices" and "preference" in means else NEEDED[table]
-    missing = [it for it in needed if it not in means and not (it == "number" and "application_number" in means)]
+    missing = [it for it in needed if it not in means and not (it == "number" and "application number" in means)]
     if missing:
         return None
     for name in {it for it in known if it and known.count(it) > 1}:
         findings.wrong_form(file, f"two columns are called `{next(word for word, meaning in own.items() if meaning == name)}`")
     for at, name in enumerate(names):
         meaning = known[at]
-        if meaning and name not in (name.lower(), meaning):
+        if meaning and name not in (name.lower(), meaning, meaning.replace(" ", "_")):
             findings.remarks.append(f"{file}: column `{name}` is read as {meaning}")
     made = Table(file, findings, Header((rows[0][0],), names), rows[1:], means)
     made.is_by_words = True

@@ -12,6 +12,7 @@ from spreadsheets import Cell, Findings, counted
 VERTICAL = tuple(it for it in CATEGORIES if it != "GEN")
 # the lists behind the common one, in the order of their places; those behind the first four are relaxed ones too, and the last is common
 BEHIND = (*VERTICAL, *(f"{it} PwD" for it in VERTICAL), "PwD")
+NO_RANK = ("", "-", "--", "na", "n/a", "nil", "0")
 RANK = f"a rank is a number {PLACE.range()}, or nothing"
 ASKS_ORDER = "a list has another order than the common list: does the common list count?"
 ASKS_PWD = "these persons with disabilities have a relaxed rank in their category, so they stand for its seats and for no open seat, also none that is protected for D: is that meant? With their rank in a common list for persons with disabilities alone, they have a common place behind all others."
@@ -39,7 +40,9 @@ def read_ranks(one: Any, merit: str, cells: dict, findings: Findings) -> Ranked:
     """Returns the ranks of a candidate, from fields by their lists. A rank in the list of another category is wrong."""
     found = Ranked(one, {}, {})
     for of, cell in cells.items():
-        if not cell.text or cell.text in ("-", "--", "NA", "N/A", "nil", "0"):
+        if cell.text.lower() in NO_RANK:
+            if cell.text:
+                findings.read_as(cell, "no rank")
             continue
         rank = number(cell, PLACE, RANK, findings)
         name = of.replace("category", one.category or "")

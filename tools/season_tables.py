@@ -114,7 +114,7 @@ class Register:
     def read(self, table: Table, numbers: dict) -> None:
         if table.is_by_words:
             table.looks_beyond()
-        self.key = "application_number" if table.has("application_number") else "number"
+        self.key = "application number" if table.has("application number") else "number"
         self.ranked = {it: [] for it in self.lists_by_name() if set(lists_of(it, table)) != {it}}
         for row, fields in table.rows:
             self.take(row, fields)
@@ -140,7 +140,7 @@ class Register:
         """Numbers candidates with application numbers: by an earlier call, and the others behind these in the order of the register."""
         following = max(numbers.values(), default=0) + 1
         for key, one in self.by_key.items():
-            if self.key == "application_number":
+            if self.key == "application number":
                 one.id = numbers.get(key)
                 if one.id is None:
                     one.id, following = following, following + 1

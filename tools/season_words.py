@@ -62,7 +62,7 @@ def number(cell: Cell, limit: Limit, allowed: str, findings: Findings, whole: Op
         return int(plain[1])
     more = ""
     if plain and limit is NUMBER and int(plain[1]) > limit.most:
-        more = "; call a column of longer numbers `application_number`, and the tool numbers the candidates"
+        more = "; call a column of longer numbers `application number`, and the tool numbers the candidates"
     elif re.fullmatch(r"[0-9.,]+[eE][+]?[0-9]+", text):
         more = "; the spreadsheet shortened the number: format the column as a number without decimals"
     elif re.fullmatch(r"[0-9]+[.,][0-9]+", text):
