@@ -81,6 +81,7 @@ class Matrix:
         self.remarks: list = []
         self.codes, self.wide, self.above = Codes(), {}, {}
         self.homes: dict = {}
+        self.by_choice: Optional[dict] = None
         self.is_read = table is not None
         if table:
             self.read(table)
@@ -396,7 +397,7 @@ class Matrix:
 
     def choosable(self) -> dict:
         """Returns the programmes by the codes that a choice may name: that of a divided one is without its quota."""
-        if not hasattr(self, "by_choice"):
+        if self.by_choice is None:
             plain = {it: one for it, one in self.programmes.items() if it.rpartition("-")[0] not in self.units}
             self.by_choice = plain | {base: self.programmes[f"{base}-HS"] for base in self.units if f"{base}-HS" in self.programmes}
         return self.by_choice

@@ -106,6 +106,9 @@ class Register:
         self.rows: dict = {}
         self.refused: set = set()
         self.taken: dict = {}
+        # the candidates by fields of the choices that are written as in the register
+        self.found: dict = {}
+        self.without_zeros: Optional[dict] = None
         self.remarks: list = []
         self.ranked: dict = {}
         if table:
@@ -224,7 +227,11 @@ class Register:
         """Returns the candidate whom a row of the choices names, or None; a candidate whose row was refused is reported there alone."""
         if self.table is None or cell.text in self.refused:
             return None
+        if cell.text in self.found:
+            return self.found[cell.text]
         key = self.key_of(cell)
+        if key in self.by_key and str(key) == cell.text:
+            self.found[cell.text] = self.by_key[key]
         if key is None or key in self.by_key:
             return self.by_key.get(key)
         near = self.near(str(key))
@@ -232,7 +239,7 @@ class Register:
         return None
 
     def near(self, key: str) -> Optional[str]:
-        if not hasattr(self, "without_zeros"):
+        if self.without_zeros is None:
             self.without_zeros = {str(it).lstrip("0"): it for it in self.by_key}
         return self.without_zeros.get(key.lstrip("0"))
 
@@ -252,7 +259,6 @@ class Choices:
             return
         self.file = table.file
         self.take_all()
-        self.lists = {id: [name for name, _ in found] for id, found in self.lists.items()}
         count = sum(map(len, self.lists.values()))
         if count > ALL_CHOICES.most:
             findings.wrong_file(self.file, f"{count:,} choices are too many: at most {ALL_CHOICES.most:,} in all")
@@ -340,8 +346,9 @@ class Choices:
 
     def with_institute(self, row: int, fields: list) -> Cell:
         """Returns the field of a row with the programme, and with the institute before it if that is a column of its own."""
-        cell, institute = self.table.cell(row, fields, "programme"), self.table.cell(row, fields, "institute")
-        return cell._replace(text=f"{institute.text} {cell.text}") if institute.text and cell.text not in self.matrix.choosable() else cell
+        cell = self.table.cell(row, fields, "programme")
+        institute = self.table.cell(row, fields, "institute").text if self.table.has("institute") else ""
+        return cell._replace(text=f"{institute} {cell.text}") if institute and cell.text not in self.matrix.choosable() else cell
 
     def asks_of_gaps(self, one: Candidate, ranks: list, cell: Cell) -> None:
         """Asks about the preferences that a candidate has not filled, and names the first ten gaps."""
@@ -352,13 +359,13 @@ class Choices:
     def take(self, one: Candidate, cells: Iterable) -> None:
         """Takes the list of a candidate, programme by programme."""
         cells = [*cells]
-        found = self.lists.setdefault(one.id, [])
+        found = self.lists.setdefault(one.id, {})
         if len(cells) > CHOICES.most:
             self.findings.wrong(cells[CHOICES.most], f"the list of {one.called()} has {len(cells):,} programmes: at most {CHOICES.most:,}")
         for cell in cells:
             name = self.programme(cell)
             if name is not None and self.is_sought(one, name, cell, found):
-                found.append((name, cell))
+                found[name] = cell
 
     def programme(self, cell: Cell) -> Optional[str]:
         """Returns the code of the programme that a choice names, by code or in words, or None; an error of the matrix is not reported again."""
@@ -395,10 +402,10 @@ class Choices:
         self.findings.wrong(cell, f"{matrix.table.file} has no programme of this code{f'; it has {near}' if near else ''}")
         return None
 
-    def is_sought(self, one: Candidate, name: str, cell: Cell, found: list) -> bool:
+    def is_sought(self, one: Candidate, name: str, cell: Cell, found: dict) -> bool:
         """Returns whether the candidate may list the programme here; reports why not."""
         of = self.matrix.choosable()[name]
-        twice = next((other for listed_name, other in found if listed_name == name), None)
+        twice = found.get(name)
         if twice:
             self.findings.wrong(cell, f"{one.called()} lists this programme twice: also in row {twice.row}, column {letters(twice.at)}")
             return False

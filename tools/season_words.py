@@ -49,6 +49,8 @@ def bare(text: str) -> str:
 def number(cell: Cell, limit: Limit, allowed: str, findings: Findings, whole: Optional[Cell] = None) -> Optional[int]:
     """Returns the number of a field, or None if it is none within the limit. `whole` is the field for messages, if more is in it than the number."""
     text, seen = cell.text, whole or cell
+    if text.isascii() and text.isdecimal() and text[0] != "0" and limit.has(int(text)):
+        return int(text)
     plain = re.fullmatch(r"0*([0-9]+?)(\.0+)?", text)
     parts = re.fullmatch(r"[0-9]{1,3}([,'\u2019 \u00a0\u202f][0-9]{2,3})*[,'\u2019 \u00a0\u202f][0-9]{3}(\.0+)?", text)
     if parts:

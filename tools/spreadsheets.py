@@ -31,12 +31,12 @@ def letters(at: int) -> str:
 
 
 def stripped(text: str) -> str:
-    return text.strip().strip(UNSEEN + " \t").strip()
+    return text.strip() if text.isascii() else text.strip().strip(UNSEEN + " \t").strip()
 
 
 def shown(text: str) -> str:
     """Returns a value for a message: signs that nobody sees are named, and a long value is cut."""
-    seen = "".join(f"<U+{ord(it):04X}>" if it in UNSEEN or not it.isprintable() else it for it in text)
+    seen = text if text.isascii() and text.isprintable() else "".join(f"<U+{ord(it):04X}>" if it in UNSEEN or not it.isprintable() else it for it in text)
     return f"`{seen[:SHOWN]}`.." if len(seen) > SHOWN else f"`{seen}`"
 
 
@@ -116,10 +116,11 @@ class Findings:
 
     def read_as(self, cell: Cell, value: object, kind: Optional[str] = None) -> None:
         """Notes that a field was written otherwise than the office spells it."""
-        example = f"{shown(cell.text)} as {value}"
-        key = (cell.file, cell.column, kind or example)
-        count, first, example = self.spellings.get(key, (0, cell.row, example))
-        self.spellings[key] = (count + 1, first, example)
+        key = (cell.file, cell.column, kind or f"{shown(cell.text)} as {value}")
+        known = self.spellings.get(key)
+        if known is None:
+            self.spellings[key] = known = [0, cell.row, f"{shown(cell.text)} as {value}"]
+        known[0] += 1
 
     def count(self) -> int:
         return len(self.files) + sum(map(len, self.kinds.values()))
@@ -157,7 +158,8 @@ class Table:
     def __init__(self, file: str, findings: Findings, header: Header, rows: list, means: dict) -> None:
         self.file, self.findings, self.header, self.rows, self.means = file, findings, header, rows, means
         self.left_out = [at for at, name in enumerate(header.names) if name and at not in means.values()]
-        # as the file writes them; in a table by its own words, those that are written otherwise are told
+        self.columns: dict = {}
+        # whether the first row names the columns by the tool's own words
         self.is_by_words = False
 
     def has(self, meaning: str) -> bool:
@@ -168,17 +170,25 @@ class Table:
 
     def cell(self, number: int, fields: list, meaning: str) -> Cell:
         """Returns the field of a row that has a meaning; a column that is missing is empty."""
+        known = self.columns.get(meaning)
+        if known is None:
+            known = self.columns[meaning] = self.column(meaning)
+        return self.field(number, fields, *known)
+
+    def column(self, meaning: str) -> tuple:
+        """Returns the column with a meaning, and how messages call it."""
         at = self.means.get(meaning)
         name = self.name(at) if at is not None else meaning
         if self.is_by_words:
             name = meaning if name.lower() == meaning.lower() else name.lower()
-        return self.field(number, fields, at, name)
+        return at, name
 
     def field(self, number: int, fields: list, at: Optional[int], name: str) -> Cell:
         written = fields[at] if at is not None and at < len(fields) else ""
-        cell = Cell(self.file, number, name, at or 0, stripped(written))
-        if cell.text != written and cell.text:
-            self.findings.read_as(cell._replace(text=written), shown(cell.text), "fields with blanks around them")
+        text = stripped(written) if written else ""
+        cell = Cell(self.file, number, name, at or 0, text)
+        if text != written and text:
+            self.findings.read_as(cell._replace(text=written), shown(text), "fields with blanks around them")
         return cell
 
     def tells_left_out(self) -> list:
@@ -259,6 +269,8 @@ def rows_of_text(file: str, data: bytes, findings: Findings, known: Iterable = (
     if delimiter != ",":
         findings.remarks.append(f"{file}: its fields are between {NAMES.get(delimiter, f'signs {delimiter}')}")
     found, bad = records(text, delimiter)
+    if "??" in text or "\ufffd" in text:
+        tell_lost_letters(file, [*enumerate(found, 1)], findings)
     if bad:
         findings.wrong_form(file, f"row {bad}: a quote is not closed, or something follows a closing quote; the rows after it were not read")
     return found
@@ -298,9 +310,7 @@ def read(folder: str, file: str, known: Iterable, findings: Findings) -> Optiona
     except OSError as why:
         findings.wrong_form(file, f"it cannot be read: {why.strerror}")
         return None
-    rows = [(number, fields) for number, fields in enumerate(found or [], 1) if any(map(stripped, fields))]
-    tell_lost_letters(file, rows, findings)
-    return None if found is None else rows
+    return None if found is None else [(number, fields) for number, fields in enumerate(found, 1) if any(map(stripped, fields))]
 
 
 def read_table(folder: str, stem: str, findings: Findings, known: Iterable = (), sheet: str = "") -> tuple:
