@@ -22,6 +22,7 @@ sys.path.append(f"{TOP}/tools")
 
 import books
 from dossiers import of_bundle
+from season_columns import guess
 from spreadsheets import put_file, written
 
 TABLES = ("register", "matrix", "choices")
@@ -131,6 +132,35 @@ def without_library() -> Iterator[str]:
         ran = subprocess.run([sys.executable, "-c", hidden, f"{TOP}/tools/season", room], capture_output=True, text=True, timeout=cases.SECONDS)
     if ran.returncode != 3 or "register.xlsx: this is a workbook: save the sheet as CSV" not in ran.stderr or "python3-openpyxl" not in ran.stderr:
         yield f"tools/season without a library for workbooks: status {ran.returncode}: {ran.stderr[-200:]}"
+
+
+# ---- guesses
+
+# headings as boards write them, with a row of values, and what each has to be guessed as
+HEADINGS = (
+    ("register", "Roll Number|Candidate Name|DOB|Sex|Category|PwD (Y/N)|JEE Main CRL Rank|JEE Main Category Rank|JEE Adv. CRL|Home State|Mobile No", "BR1200345|A|2007-01-01|F|OBC|N|1,234|300||Bihar|9",
+     "application number|name|-|gender|category|disability|m1|m1 category|m2|state|-"),
+    ("register", "application_id|student_name|gender|social_category|disability_status|merit_rank", "2026000001|A|F|GEN|NO|12", "application number|name|gender|category|disability|m1"),
+    ("register", "SNo|Appl. No.|Name|Cat|AIR|Domicile State|State Code of Eligibility|Ex-Servicemen|Sports", "1|123456789012|A|GEN|12|KA|KA|N|N", "-|application number|name|category|m1|-|state|X|S"),
+    ("register", "Reg No|Category|Overall Merit Rank|EWS Rank|PwD Rank", "17|SC|4|2|1", "number|category|m1|m1 EWS|m1 PwD"),
+    ("matrix", "Institute|Academic Program Name|Quota|Seat Type|Gender|Seats", "IIT Bombay|C S E|AI|OPEN|Gender-Neutral|40", "institute name|programme name|quota|step|pool|seats"),
+    ("matrix", "Inst. Code|Institute Name|Br Code|Branch Name|OPEN|OPEN PwD|GEN-EWS|OBC-NCL|SC|ST|Total", "101|IIT B|4110|C S|40|2|9|22|12|6|91", "institute|institute name|programme|programme name|OPEN|OPEN PwD|EWS|OBC|SC|ST|total"),
+    ("matrix", "College Code|Course|Intake|UR|EWS|OBC|SC|ST", "E001|CS|65|30|6|16|9|4", "institute|programme|total|OPEN|EWS|OBC|SC|ST"),
+    ("choices", "Application Number|Choice 1|Choice 2", "260310000001|A|B", "candidate|choice 1|choice 2"),
+    ("choices", "Roll No|Choice No|Choice Code", "BR1|1|101-4110", "candidate|preference|programme"),
+    ("choices", "Roll No|Option|Institute|Program", "1|1|IIT|CSE", "candidate|preference|institute|programme"),
+    ("choices", "Appl No|List of choices", "1|A;B;C", "candidate|programmes"),
+)
+
+
+def guesses() -> Iterator[str]:
+    """Gives headings that are guessed otherwise than they are meant."""
+    for table, headings, values, wanted in HEADINGS:
+        header, found = guess(table, [(1, ["A board"]), (3, headings.split("|")), (4, values.split("|"))])
+        means = {at: meaning for meaning, at in found.items()}
+        came = "|".join(means.get(at, "-") for at in range(len(header.names)))
+        if header.rows != (3,) or came != wanted:
+            yield f"tools/season guesses of the {table} {headings}: {came}, and not {wanted}"
 
 
 # ---- spoiled sheets
@@ -300,7 +330,7 @@ def fault_of_mock(program: str, bundle: bytes, replies: bytes) -> Optional[str]:
 
 def faults() -> list:
     """Returns all that is looked at without a program, but for the spoiled sheets."""
-    return [*walks(), *in_books(), *without_library()]
+    return [*guesses(), *walks(), *in_books(), *without_library()]
 
 
 def trials(program: str) -> Iterator[Callable]:

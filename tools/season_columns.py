@@ -51,8 +51,8 @@ def plain(text: str) -> str:
     return " ".join(re.findall(r"[^\W_]+", text.lower().replace("&", " and ")))
 
 
-IDENTITY = re.compile(r"((candidate|applicant|student|application|appl|app|appln|registration|regn|reg|roll|enrolment|enrollment|form|jee|main|advanced|hall|ticket|s) ?)+(no|number|num|id|code)?|id|number|candidate")
-SERIAL = re.compile(r"(s|sl|sr|serial|srl)( no| number)?|no")
+IDENTITY = re.compile(r"((candidate|applicant|student|application|appl|app|appln|registration|regn|reg|roll|enrolment|enrollment|form|jee|main|advanced|hall|ticket) ?)+(s? ?(no|number|num|id|code))?|id|number|candidate")
+SERIAL = re.compile(r"(s|sl|sr|serial|srl)( ?no| number)?|no")
 FORMS = {
     "register": (
         (r"((candidate|applicant|student)( s)? )?(full )?name( of( the)? (candidate|applicant|student))?", "name"),
@@ -68,9 +68,9 @@ FORMS = {
         (r"token", "token"),
     ),
     "matrix": (
-        (r"(institute|institution|college|university)( code| id)", "institute"),
+        (r"(inst|institute|institution|college|university)( code| id)", "institute"),
         (r"(institute|institution|college|university)( name)?|name of( the)? (institute|institution|college)", "institute"),
-        (r"((academic )?(programme|program|course|branch|discipline)|choice)( code| id)", "programme"),
+        (r"((academic )?(programme|program|course|br|branch|discipline)|choice)( code| id)", "programme"),
         (r"(academic )?(programme|program|course|branch|discipline)( name)?|name of( the)? (programme|program|course|branch)", "programme"),
         (r"(merit )?list|exam(ination)?", "list"),
         (r"step|(seat )?category|seat type", "step"),
@@ -105,7 +105,7 @@ def numeric(values: list) -> bool:
 
 def rank_of(words: set, values: list, exams: dict) -> Optional[str]:
     """Returns which rank a column of the register has, or None if it has none."""
-    if words - OF_RANK - set(OF_LIST) - OF_DISABLED - BY_ALL - set(EXAMS) or not numeric(values):
+    if words - OF_RANK - set(OF_LIST) - OF_DISABLED - BY_ALL - set(EXAMS) or not (numeric(values) or words & OF_RANK and not any(values)):
         return None
     if not words & (OF_RANK | set(OF_LIST) | OF_DISABLED):
         return None
@@ -157,10 +157,14 @@ def meanings(table: str, names: list, rows: list) -> dict:
     for at, name in enumerate(names):
         values = [stripped(fields[at]) for _, fields in rows[:LOOKED] if at < len(fields)]
         meaning = meaning_of(table, name, values, exams)
-        if meaning in ("institute", "programme") and table == "matrix" and not all(map(is_code, filter(None, values))):
+        if meaning in ("institute", "programme") and table == "matrix" and (meaning in found or not all(map(is_code, filter(None, values)))):
             meaning = f"{meaning} name"
+        if meaning == "programme" and table == "choices" and any(values) and all(re.fullmatch("[0-9]{1,3}", it) for it in values):
+            meaning = "preference"
         if meaning and (meaning not in found or PREFERRED.get(meaning, "-") in plain(name)):
             found[meaning] = at
+    if "seats" in found and "total" not in found and len({*found} & {*WIDE}) > 1:
+        found["total"] = found.pop("seats")
     return found
 
 
