@@ -332,7 +332,7 @@ def by_plan(table: str, file: str, rows: list, plan: Plan, findings: Findings) -
     new = [name for at, name in enumerate(header.names) if name and name not in [it[2].text for it in plan.columns]]
     if new:
         findings.wrong_form(FILE, f"{file} has columns that {FILE} does not name: {listed(new, 'and')}; add a row for each, or remove the rows of {table} for a new guess")
-    return Table(file, findings, header, rows[at + len(plan.header) :], means)
+    return None if missing else Table(file, findings, header, rows[at + len(plan.header) :], means)
 
 
 def column_of(header: Header, cells: list) -> Optional[int]:
