@@ -317,15 +317,19 @@ def by_plan(table: str, file: str, rows: list, plan: Plan, findings: Findings) -
         findings.wrong_form(FILE, f"{table}: the header is in {listed([f'row {it}' for it in plan.header], 'and') if plan.header else 'no row'}, and {file} has none there; remove the rows of {table} from {FILE} for a new guess")
         return None
     means: dict = {}
+    before = len(findings.causes)
     for cells in plan.columns:
         column = column_of(header, cells)
         meaning = meaning_in(table, cells[3], findings)
         if column is None:
-            findings.wrong_form(FILE, f"row {cells[2].row}, column heading: {cells[2].value()}: {file} has no such column in {header.where()}; it has {listed(filter(None, header.names), 'and')}")
+            refuse(cells[2], f"{file} has no such column in {header.where()}; it has {listed(filter(None, header.names), 'and')}", findings)
         elif meaning in means:
-            findings.wrong_form(FILE, f"row {cells[3].row}, column means: {cells[3].value()}: two columns of {file} mean this; write {LEFT_OUT} for one of them")
+            refuse(cells[3], f"two columns of {file} mean this; write {LEFT_OUT} for one of them", findings)
         elif meaning:
             means[meaning] = column
+    if len(findings.causes) > before:
+        # that a column is missing or new may follow from these
+        return None
     missing = lacking(table, means)
     if missing:
         findings.wrong_form(FILE, f"no column of {file} means {listed(missing, 'and')}: write it in the column `means`")
