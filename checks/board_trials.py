@@ -246,6 +246,8 @@ def of_files() -> Iterator[Spoiled]:
     yield whole("tokens.csv", "a workbook", b"PK\x03\x04" * 20, "tokens.csv: this is a workbook")
     yield whole("tokens.csv", "one token twice", b"candidate,token\n1,token000000001aa\n2,token000000001aa\n", "another row has the same token")
     yield whole("tokens.csv", "shortened tokens", b"candidate,token\n1,1.2E+31\n", "tokens.csv: row 2: a row has a candidate's number and a token")
+    yield bytewise("tokens.csv", "shortened application numbers", lambda data: data.replace(b",260310000025,", b",2.6031E+11,"), "tokens.csv: row 3, column application_number: `2.6031E.11`")
+    yield bytewise("register.csv", "a number with zeros that the tokens lack", lambda data: data.replace(b",260310000025,", b",0260310000025,"), "the file of tokens: 0260310000025 is written `260310000025` there")
     yield whole("register.xlsx", "beside register.csv", b"x", "register.csv is read, and not register.xlsx", 0)
 
 

@@ -17,8 +17,12 @@ class Kept:
     def __init__(self, path: str, findings: Findings) -> None:
         self.tokens: dict = {}
         self.numbers: dict = {}
+        folder, file = os.path.split(path)
+        near = [it for it in sorted(os.listdir(folder or ".")) if os.path.splitext(it)[0].lower() == os.path.splitext(file)[0].lower() and it != file]
         if os.path.exists(path):
             self.read(path, findings)
+        elif near:
+            findings.causes.append(f"{file}: it is not there, and {near[0]} is. Its tokens may be sent already: save it as {file}, or name it by --tokens FILE")
 
     def read(self, path: str, findings: Findings) -> None:
         """Reads the file of tokens as every other sheet, also if a spreadsheet program saved it again."""
@@ -46,6 +50,8 @@ class Kept:
             return
         self.tokens[name] = token
         application = re.sub(r"\s|\.0+$", "", row.get("application_number", "")).upper()
+        if re.fullmatch(r"[0-9]*[.,]?[0-9]+E\+[0-9]+", application):
+            findings.wrong_file(file, f"row {number}, column application_number: `{application}`: a spreadsheet program shortened the number. {NO_TOKENS}")
         if application and name != "clerk":
             self.numbers[application] = int(name)
 

@@ -8,7 +8,7 @@ from season_columns import CHOICE
 from season_ranks import cells_of, give_places, lists_of, read_ranks
 from season_seats import Matrix
 from season_words import application, bare, category, code, gender, has_trait, is_code, number, place, state, traits
-from spreadsheets import Cell, Findings, Table, letters, read_table, stripped
+from spreadsheets import Cell, Findings, Table, counted, letters, read_table, some, stripped
 
 ASKS_GAPS = "a preference is missing in the order: do the later choices move up?"
 ASKS_TWICE = "a candidate has two rows that agree in every column that is read: is one of them left out?"
@@ -142,12 +142,18 @@ class Register:
     def give_numbers(self, numbers: dict) -> None:
         """Numbers candidates with application numbers: by an earlier call, and the others behind these in the order of the register."""
         following = max(numbers.values(), default=0) + 1
+        without_zeros = {it.lstrip("0"): it for it in numbers}
         for key, one in self.by_key.items():
             if self.key == "application number":
                 one.id = numbers.get(key)
+                if one.id is None and key.lstrip("0") in without_zeros:
+                    self.findings.wrong_file("the file of tokens", f"{key} is written `{without_zeros[key.lstrip('0')]}` there: a spreadsheet program drops zeros at the beginning. Put a good copy in its place")
                 if one.id is None:
                     one.id, following = following, following + 1
             self.people[one.id] = one
+        gone = [it for it in numbers if it not in self.by_key]
+        if gone and self.key == "application number":
+            self.remarks.append(f"the file of tokens has {counted(len(gone), 'application number')} that the register has not: {some(gone)}")
 
     # ---- rows
 
