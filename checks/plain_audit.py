@@ -62,7 +62,7 @@ def parts_of(given):
 # ---- the season and its script
 
 
-def records(text):
+def records(text: str) -> list:
     """Returns the comma-separated records of a text, with or without quotes. Empty fields at an end are none, and a record without fields is none."""
     csv.field_size_limit(sys.maxsize)
     found = []

@@ -3,6 +3,7 @@
 Each finder gets the rows of its section and the number of the faulty row. It returns the field, counted from 0, or None if the fault is of the whole row,
 and a sentence."""
 import re
+from typing import Callable
 
 from bundles import numbered_rows
 from formats import ALL_CHOICES, ALL_SEATS, ALLOWED, ANSWERS, CANDIDATES, CHOICES, CODE, HEADERS, MERIT_LISTS, NUMBER, OTHER_WORDS
@@ -161,7 +162,7 @@ MATRIX = {
 # ---- the choices
 
 
-def units_of(rows):
+def units_of(rows: "Rows") -> Callable:
     """Returns a function from a choice of the row to the code in the matrix: that of a divided programme becomes one of its units."""
     homes = {it.fields[0]: it.fields[1] for it in rows.given.rows("units") if len(it.fields) == 2}
     state = next((it.fields[1] for it in rows.given.rows("states") if it.fields[0] == rows.field(0) and len(it.fields) == 2), None)
