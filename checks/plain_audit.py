@@ -283,6 +283,7 @@ class Audited(Office):
         pass
 
     reply_to_why = reply_to_round = reply_to_choices = reply_to_state = reply_to_seat = reply_to_list
+    reply_to_cutoffs = reply_to_register = reply_to_answers = reply_to_list
 
 
 def broken_in(office, found):

@@ -360,9 +360,10 @@ def fault_of_own(program: str, label: str, given: bytes) -> str | None:
 
 
 def fault_of_divided(program):
-    """Why the dossier of examples/two-states with all its cuts is not sound and best by both auditors, or None."""
+    """Why the dossier of examples/two-states with all its cuts and a question of each kind is not sound and best by both auditors, or None."""
     with open(f"{TOP}/examples/two-states/divided.txt", "rb") as it:
-        bundle = it.read() + b"answer,1,1,1,1,freeze\nanswer,2,2,1,1,float\ncut,clerk,1\ncut,clerk,2\n"
+        asked = b"seat,1,1\nchoices,1,1\nregister,1,1\nanswers,1,1\nwhy,3,3,N-HS\nlist,nobody,1,N-HS\ncutoffs,nobody,1,N-OS\nround,nobody,1\nstate,nobody\n"
+        bundle = it.read() + b"answer,1,1,1,1,freeze\nanswer,2,2,1,1,float\n" + asked + b"cut,clerk,1\ncut,clerk,2\n"
     given = OF_BUNDLE(lambda words, it: called(program, words, it, "/"), bundle)
     told = b"audit sound rounds 2\nbest\n", 0
     if b'"' not in given or verdict(given, True) != told:
