@@ -398,9 +398,13 @@ class Matrix:
     def choosable(self) -> dict:
         """Returns the programmes by the codes that a choice may name: that of a divided one is without its quota."""
         if self.by_choice is None:
-            plain = {it: one for it, one in self.programmes.items() if it.rpartition("-")[0] not in self.units}
+            plain = {it: one for it, one in self.programmes.items() if not self.base_of(it)}
             self.by_choice = plain | {base: self.programmes[f"{base}-HS"] for base in self.units if f"{base}-HS" in self.programmes}
         return self.by_choice
+
+    def base_of(self, name: str) -> Optional[str]:
+        """Returns the divided programme of which a code is a unit, or None."""
+        return name[:-3] if name[-3:] in ("-HS", "-OS") and name[:-3] in self.units else None
 
     def near(self, name: str) -> Optional[str]:
         """Returns the code that may be meant: one that differs only in case, or in zeros before it."""

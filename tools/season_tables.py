@@ -400,8 +400,8 @@ class Choices:
         name, matrix = code(cell, self.findings), self.matrix
         if name is None or name in matrix.choosable():
             return name
-        base = name.rpartition("-")[0]
-        if base in matrix.units:
+        base = matrix.base_of(name)
+        if base:
             self.findings.wrong(cell, f"a choice names the programme and never one of its units: write {base}")
             return None
         near = matrix.near(name)
