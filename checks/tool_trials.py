@@ -1,6 +1,7 @@
 """The tools of tools/, held against cases/tools/season.txt, docs/FORMATS.md, the faults of cases/, and drawn seasons.
 
-Without a program: the limits of tools/formats.py, tools/season on written and drawn spreadsheets, and tools/explain on each fault of cases/.
+Without a program: the limits of tools/formats.py, tools/season on written and drawn spreadsheets, and tools/explain on each fault of cases/;
+and a board's own sheets (checks/board_trials.py).
 Over a program: it accepts what tools/season made; tools/sheet gives sheets on which `step` writes the published lists, and of a broken list the line and
 the reason; and a dossier without its tokens has the verdict of the one with them."""
 import concurrent.futures
