@@ -4,6 +4,7 @@ Without a program: the guess of the columns, the bundle, the same numbers and to
 Over a program: it counts both bundles, their dossiers are sound by both auditors, and the mock round of both is round 1."""
 import csv
 import functools
+import importlib
 import io
 import os
 import re
@@ -103,24 +104,51 @@ def with_one_more(room: str, before: bytes) -> Iterator[str]:
         yield f"examples/board-sheets: with one candidate more the status is {status}, and lines are lost: {[*lost][:2]} {said[-200:]}"
 
 
+def put_xlsx(path: str, rows: list) -> None:
+    """Writes a workbook with a sheet of remarks in front; numbers are numbers there, as a spreadsheet program makes them."""
+    book = books.library(".xlsx").Workbook()
+    book.active.append(["remarks"])
+    sheet = book.create_sheet(os.path.basename(path).partition(".")[0])
+    for row in rows:
+        sheet.append([int(it) if it.isdecimal() else it or None for it in row])
+    book.save(path)
+
+
+def put_ods(path: str, rows: list) -> None:
+    """Writes a workbook of LibreOffice's kind, with empty cells and rows that are repeated at the ends."""
+    kinds, found = {True: "float", False: "string"}, books.library(".ods").OpenDocumentSpreadsheet()
+    table, text = importlib.import_module("odf.table"), importlib.import_module("odf.text")
+    sheet = table.Table(name="Sheet1")
+    for row in rows:
+        line = table.TableRow()
+        for it in row:
+            cell = table.TableCell(valuetype=kinds[it.isdecimal()], **({"value": it} if it.isdecimal() else {})) if it else table.TableCell()
+            if it:
+                cell.addElement(text.P(text=it))
+            line.addElement(cell)
+        line.addElement(table.TableCell(numbercolumnsrepeated=16_000))
+        sheet.addElement(line)
+    sheet.addElement(table.TableRow(numberrowsrepeated=1_000_000))
+    found.spreadsheet.addElement(sheet)
+    found.save(path)
+
+
 def in_books() -> Iterator[str]:
     """Gives what is wrong if the sheets are workbooks, where a library for them is installed."""
-    try:
-        openpyxl = books.library(".xlsx")
-    except books.NoBook:
-        return
-    with tempfile.TemporaryDirectory(prefix="board-", dir=cases.ROOMS) as room, tempfile.TemporaryDirectory(prefix="board-", dir=cases.ROOMS) as other:
-        wanted = walked(room, True)
-        shutil.copyfile(f"{room}/tokens.csv", f"{other}/tokens.csv")
-        for name in (*TABLES, "season"):
-            book = openpyxl.Workbook()
-            for row in rows_of(f"{room}/{name}.csv"):
-                book.active.append([int(it) if it.isdecimal() else it or None for it in row])
-            book.save(f"{other}/{name}.xlsx")
-        season(other)
-        wrote, said, status = season("--yes=women-D", other)
+    for ending, put in ((".xlsx", put_xlsx), (".ods", put_ods)):
+        try:
+            books.library(ending)
+        except books.NoBook:
+            continue
+        with tempfile.TemporaryDirectory(prefix="board-", dir=cases.ROOMS) as room, tempfile.TemporaryDirectory(prefix="board-", dir=cases.ROOMS) as other:
+            wanted = walked(room, True)
+            shutil.copyfile(f"{room}/tokens.csv", f"{other}/tokens.csv")
+            for name in (*TABLES, "season"):
+                put(f"{other}/{name}{ending}", rows_of(f"{room}/{name}.csv"))
+            season(other)
+            wrote, said, status = season("--yes=women-D", other)
         if status or wrote != wanted:
-            yield f"examples/board-sheets as workbooks: status {status}: {said[-200:]}"
+            yield f"examples/board-sheets as {ending}: status {status}: {said[-200:]}"
 
 
 def without_library() -> Iterator[str]:

@@ -66,7 +66,8 @@ def records(text: str) -> list:
     """Returns the comma-separated records of a text, with or without quotes. Empty fields at an end are none, and a record without fields is none."""
     csv.field_size_limit(sys.maxsize)
     found = []
-    for fields in csv.reader(io.StringIO(text, newline="")):
+    # Python before 3.11 reads no zero bytes; no field may have one
+    for fields in csv.reader(io.StringIO(text.replace("\0", "?"), newline="")):
         while fields and not fields[-1]:
             fields.pop()
         if fields:
