@@ -51,7 +51,8 @@ def plain(text: str) -> str:
     return " ".join(re.findall(r"[^\W_]+", text.lower().replace("&", " and ")))
 
 
-IDENTITY = re.compile(r"((candidate|applicant|student|application|appl|app|appln|registration|regn|reg|roll|enrolment|enrollment|form|jee|main|advanced|hall|ticket) ?)+(s? ?(no|number|num|id|code))?|id|number|candidate")
+OF_PERSON = {"candidate", "applicant", "student", "application", "appl", "app", "appln", "registration", "regn", "reg", "roll", "enrolment", "enrollment", "form", "hall", "ticket"}
+OF_NUMBER = {"no", "number", "num", "id", "code", "s", "jee", "main", "advanced"}
 SERIAL = re.compile(r"(s|sl|sr|serial|srl)( ?no| number)?|no")
 FORMS = {
     "register": (
@@ -126,12 +127,17 @@ def seats_of(words: set, values: list) -> Optional[str]:
     return f"{steps[0]}{' W' * bool(words & female)}{' PwD' * bool(words & OF_DISABLED)}"
 
 
+def is_identity(words: set) -> bool:
+    """Returns whether a heading is of the number by which a board knows its candidates."""
+    return words <= OF_PERSON | OF_NUMBER and bool(words & OF_PERSON) or words in ({"id"}, {"number"})
+
+
 def meaning_of(table: str, heading: str, values: list, exams: dict) -> Optional[str]:
     """Returns what a column may mean by its heading and its values, or None."""
     name = plain(heading)
     if not name or SERIAL.fullmatch(name):
         return None
-    if IDENTITY.fullmatch(name) and table != "matrix" and any(re.search("[0-9]", it) for it in values):
+    if table != "matrix" and is_identity({*re.sub("([a-z])no$", r"\1 no", name).split()}) and any(re.search("[0-9]", it) for it in values):
         if table == "choices":
             return "candidate"
         is_short = all(re.fullmatch("[1-9][0-9]*", it) and NUMBER.has(int(it)) for it in values if it)

@@ -238,7 +238,9 @@ def records(text: str, delimiter: str) -> tuple:
     csv.field_size_limit(sys.maxsize)
     found = []
     try:
-        for row in csv.reader(io.StringIO(text, newline=""), delimiter=delimiter, strict=True):
+        # line by line, because a StringIO would hold four bytes for each letter
+        lines = (it[0] for it in re.finditer("[^\r\n]*(?:\r\n|\r|\n)|[^\r\n]+", text))
+        for row in csv.reader(lines, delimiter=delimiter, strict=True):
             found.append(row)
     except csv.Error:
         return found, len(found) + 1
