@@ -1,0 +1,292 @@
+"""tools/tables, held against a plain program and on spoiled files.
+
+Without a program: the tables of drawn seasons, whose papers the plain office made, are those of checks/plain_tables.py. Over a program: the same for generated and
+divided seasons, whose dossiers tools/dossier makes."""
+import concurrent.futures
+import csv
+import functools
+import os
+import re
+import subprocess
+import sys
+import tempfile
+
+import cases
+import plain_tables
+from plain_dossiers import Dossier
+from plain_special import drawn_season
+from plain_trials import Draw, in_order
+
+TOP = os.path.dirname(os.path.dirname(os.path.realpath(__file__)))
+
+
+def called(tool, words, given=b"", **more):
+    """Runs a tool; returns its output, what it said, and its status."""
+    ran = subprocess.run([sys.executable, f"{TOP}/{tool}", *words], input=given, capture_output=True, timeout=cases.SECONDS, env={**os.environ, **more})
+    return ran.stdout.decode(errors="replace"), ran.stderr.decode(errors="replace"), ran.returncode
+
+
+def put(path, data):
+    with open(path, "wb") as it:
+        it.write(data if isinstance(data, bytes) else data.encode())
+    return path
+
+
+# ---- tables
+
+
+def shown(field):
+    """The text that a spreadsheet shows for a field."""
+    found = re.fullmatch('="(.*)"', field, re.S)
+    return found[1].replace('""', '"') if found else field
+
+
+def table(path):
+    """The rows of a table as a spreadsheet shows them, with the header."""
+    with open(path, "rb") as it:
+        data = it.read()
+    assert data.startswith(b"\xef\xbb\xbf"), f"{path} has no byte order mark"
+    return [[shown(it) for it in row] for row in csv.reader(data.decode("utf-8-sig").splitlines())]
+
+
+def without_names(rows):
+    """The rows of allotments without the columns of names for codes, which repeat the codes here."""
+    header = rows[0]
+    kept = [at for at, it in enumerate(header) if it not in ("institute name",)]
+    return sorted([row[at] for at in kept] for row in rows[1:])
+
+
+def why_other(room, dossier):
+    """Why the tables of a dossier are not those of the plain program, or None."""
+    plain = plain_tables.Plain(dossier.decode())
+    if not plain.texts:
+        _, said, status = called("tools/tables", [put(f"{room}/dossier.txt", dossier), f"{room}/none"])
+        return None if status == 3 and "no round is published" in said else f"no round is published, and the status is {status}: {said[-200:]}"
+    name = "final" if "final" in plain.texts else max(plain.texts, key=int)
+    _, said, status = called("tools/tables", [put(f"{room}/dossier.txt", dossier), f"{room}/out"])
+    if status:
+        return f"status {status}: {said[-300:]}"
+    for one in plain.texts:
+        header, *rows = table(f"{room}/out/ranks-{one}.csv")
+        if header != ["Institute", "Program", "Quota", "Seat Type", "Gender", "Opening Rank", "Closing Rank"] or sorted(rows) != plain_tables.ranks(plain, one):
+            return f"ranks-{one}.csv has {sorted(rows)[:3]}, and the plain program {plain_tables.ranks(plain, one)[:3]}"
+    whole = without_names(table(f"{room}/out/allotments.csv"))
+    if whole != plain_tables.allotments(plain, name):
+        return f"allotments.csv has {whole[:2]}, and the plain program {plain_tables.allotments(plain, name)[:2]}"
+    parts = sorted(row for it in os.listdir(f"{room}/out/institutes") for row in without_names(table(f"{room}/out/institutes/{it}")))
+    if parts != whole or {it for it in os.listdir(f"{room}/out/institutes")} != {f"institute-{it}.csv" for it in plain.institute.values()}:
+        return "the files of the institutes do not make the whole"
+    rows = sorted([row[1], *row[2:8]] for row in table(f"{room}/out/vacant.csv")[1:])
+    if rows != plain_tables.vacant(plain, name):
+        return f"vacant.csv has {rows[:3]}, and the plain program {plain_tables.vacant(plain, name)[:3]}"
+    groups = {row[0]: row[1:5] for row in table(f"{room}/out/statistics.csv")[1:]}
+    if any(groups.get(label) != found for label, found in plain_tables.counts(plain, name).items()):
+        return f"statistics.csv has {groups}, and the plain program {plain_tables.counts(plain, name)}"
+    return None
+
+
+def of_dossier(label, dossier):
+    with tempfile.TemporaryDirectory(prefix="tables-", dir=cases.ROOMS) as room:
+        why = why_other(room, dossier)
+    return why and f"tools/tables, {label}: {why}"
+
+
+def of_drawn(label, text):
+    return of_dossier(label, Dossier(text).given())
+
+
+def drawn(count):
+    """Drawn seasons with categories, traits, relaxed places and raises, whose papers the plain office made; some are cut short after a round."""
+    draw = Draw(77)
+    for number in range(count):
+        text = drawn_season(draw, in_order)
+        if draw.below(4) == 0:
+            text = text[: text.rindex("cut,clerk")]
+        yield functools.partial(of_drawn, f"drawn season {number}", text)
+
+
+# ---- tables that a spreadsheet opens
+
+# fields that a spreadsheet would change, and others
+CODES = ("007", "1E5", "3-4", "12/5", "10:30", "240310123456", "MAR-1", "1-SEP", "TRUE", "=1+1", "+91 98", "-5", "@x", '="x"', '=HYPERLINK("x")', "=" + "x" * 300)
+PLAIN = ("CSE-HS", "12", "4R", "3.5", "-", "", "Zoë", "प्रिया, A", 'a "b"', "1,2")
+
+
+def codes_stay():
+    """Fields are shown as the texts that they were, those that a spreadsheet would change as texts, and the others plainly."""
+    sys.path.append(f"{TOP}/tools")
+    import spreadsheet_csv
+
+    with tempfile.TemporaryDirectory(prefix="tables-", dir=cases.ROOMS) as room:
+        for column in (CODES, PLAIN, ("7", "008", "9")):
+            spreadsheet_csv.write(f"{room}/codes.csv", ["code"], [[it] for it in column])
+            with open(f"{room}/codes.csv", encoding="utf-8-sig", newline="") as it:
+                fields = [row[0] for row in csv.reader(it)][1:]
+            if [spreadsheet_csv.plain(it) for it in fields] != [*column]:
+                yield f"tools/spreadsheet_csv.py: {column} comes back as {fields}"
+            kept = [it.startswith('="') or len(it) > 255 for it in fields]
+            if kept != [column != PLAIN] * len(column):
+                yield f"tools/spreadsheet_csv.py: of {column} these are kept as text: {kept}"
+
+
+# ---- spoiled files
+
+TOKENS = "number,application_number,token,name\nclerk,,clerk0001,\n" + "".join(f"{it},24031012345{it},tok0000{it},Name {it}\n" for it in range(1, 7))
+# a dossier that is spoiled: what is replaced by what, and what the tool says of it
+DOSSIERS = (
+    (r"\A", "PK\x03\x04", "this is a workbook"),
+    (r"\A", "SQLite format 3\0", "this is a store: tools/dossier --store"),
+    (r"\A[^\n]*", "hello", r"line 1: `hello`: a dossier begins with"),
+    (r"\A[\s\S]*", "", r"line 1: ``: a dossier begins with"),
+    (r"\[published\]\n[\s\S]*", "", r"this is no dossier, because a line \[requests\] and after it"),
+    (r"\[matrix\]\n", "", r"there is no line \[matrix\]"),
+    (r"^2,GEN,-", "x,GEN,-", r"line 8, row 3 of \[register\], column id: `x`: a candidate number is"),
+    (r"^2,GEN,-", "1,GEN,-", r"line 8, row 3 of \[register\], column id: `1`: an earlier row"),
+    (r"^2,GEN,-", "2,general,-", r"column category: `general`: a category is GEN"),
+    (r"^2,GEN,-", "2,GEN,Q", r"column traits: `Q`: traits are distinct letters"),
+    (r"^(2,GEN,-,tok00002),2", r"\1,2nd", r"column m1: `2nd`: a place is a number"),
+    (r"^B,I2,1,OPEN,1", "B,I2,5,OPEN,1", r"column list: `5`: the merit list is 1 to 4"),
+    (r"^B,I2,1,OPEN,1", "B,I2,1,open,1", r"column step: `open`: a step is OPEN"),
+    (r"^B,I2,1,OPEN,1", "B,I2,1,OPEN,-1", r"column seats: `-1`: seats are 0 to 4,000"),
+    (r"^B,I2,1", "B,I/2,1", r"column institute: `I/2`: a code is"),
+    (r"^2,A,B", "2,A,Z", r"row 3 of \[choices\], column field 3: `Z`: the matrix has no programme of this code"),
+    (r"^2,A,B", "9,A,B", r"column candidate: `9`: the register has no candidate"),
+    (r"^rounds,3", "rounds,30", r"column field 2: `30`: rounds are 1 to 10"),
+    (r"^allot 2 B OPEN", "allot 2 B", r": `allot 2 B`: a line here is `allot`"),
+    (r"^allot 2 B OPEN", "allot 9 B OPEN", r"`allot 9 B OPEN`: the register has no candidate"),
+    (r"^allot 2 B OPEN", "allot 2 Z OPEN", r"`allot 2 Z OPEN`: the matrix has no programme"),
+    (r"^allot 2 B OPEN", "allot 2 C OPEN", r"candidate 2 has C OPEN in round 1, and B OPEN in its lists: have the dossier audited"),
+    (r"^allot 2 B OPEN\n", "", r"`round 1 seated 4`: 3 lines follow it"),
+    (r"^end round\n", "", r"here a line `allot \.\.` or `end round` is expected"),
+    (r"^round 2 seated", "round 3 seated", r"`round 3 seated \d`: here round 2 is expected"),
+    (r"^step OBC .*\n", "", r"here a line `step OBC seats N|here the step OBC is expected"),
+    (r"^list 1 B\n(?:.*\n)*?end list\n", "", r"round 1 has no list of B"),
+    (r"^admit 3 B OPEN", "admit 3 A OPEN", r"candidate 3 has A OPEN in the final admissions, and not in the last round"),
+    (r"end final\n", "", r"the end of the file: here a line `admit \.\.` or `end final`"),
+)
+# a table of the board's that is spoiled, and what the tools say of it
+BOARDS = (
+    ("--names", b"", "it is empty"),
+    ("--names", b"PK\x03\x04rest", "it cannot be read|save it as CSV"),
+    ("--names", b"name,token\nx,tok00001\n", r"row 1: there is no column `number`, `candidate` or `id`"),
+    ("--names", TOKENS.replace("\n3,", "\nthree,").encode(), r"row 5, column number \(A\): `three`: a candidate number is"),
+    ("--names", TOKENS.encode() + b"2,x,tok00002,Other\n", r"row 9, column number \(A\): `2`: an earlier row of this candidate has other values"),
+    ("--codes", b"programme,A,One\nprogram,B,Two\n", r"row 2: `program,B,Two`: a row is `programme,CODE,NAME`"),
+    ("--codes", b"programme,A,One\nprogramme,A,Two\n", r"row 2, column C: `Two`: an earlier row has another name"),
+    ("--codes", b"programme,A,\n", r"row 1, column C: ``: a name has 1 to 200 letters"),
+)
+
+
+def three_windows():
+    with open(f"{TOP}/examples/three-windows/bundle.txt", encoding="ascii") as it:
+        return Dossier(it.read()).given().decode()
+
+
+def why_taken(tool, words, said_of):
+    """Why a tool takes a spoiled file, or does not say what is wrong, or None. Words that are bytes are files with these bytes."""
+    with tempfile.TemporaryDirectory(prefix="tables-", dir=cases.ROOMS) as room:
+        words = [put(f"{room}/{at}.txt", it) if isinstance(it, bytes) else it for at, it in enumerate(words)]
+        _, said, status = called(f"tools/{tool}", [*words, f"{room}/out"])
+        is_written = os.path.exists(f"{room}/out")
+    if status != 3 or "Traceback" in said or not re.search(said_of, said) or not said.startswith(f"{tool}: "):
+        return f"tools/{tool} of a spoiled file: status {status} and {said.strip()[-300:]!r}, and not {said_of!r}"
+    return f"tools/{tool} wrote of a spoiled file: {said_of}" if is_written else None
+
+
+def spoiled():
+    """Spoiled dossiers and tables of the board's: each is refused with its place, and nothing is written."""
+    dossier = three_windows()
+    for form, instead, said_of in DOSSIERS:
+        text, count = re.subn(form, instead, dossier, count=1, flags=re.M)
+        yield functools.partial(why_taken, "tables", [text.encode()], said_of) if count else lambda form=form: f"checks/table_trials.py: {form} is nowhere"
+    for option, data, said_of in BOARDS:
+        yield functools.partial(why_taken, "tables", [dossier.encode(), option, data], said_of)
+    for words, said_of in ((["--round", "4"], "published are 1, 2, 3, final"), (["--round", "x"], "published are")):
+        yield functools.partial(why_taken, "tables", [dossier.encode(), *words], said_of)
+
+
+def other_words():
+    """Why the status of a call with a missing file, with other words or with --help is another one, or None."""
+    with tempfile.TemporaryDirectory(prefix="tables-", dir=cases.ROOMS) as room:
+        here = put(f"{room}/dossier.txt", three_windows())
+        calls = [("tables", [f"{room}/none.txt", f"{room}/out"], 1), ("tables", [here], 2), ("tables", ["--help"], 0)]
+        wrong = [f"{tool} {words}: {status}" for tool, words, wanted in calls for _, _, status in [called(f"tools/{tool}", words)] if status != wanted]
+    return f"tools: the statuses of other calls are {wrong}" if wrong else None
+
+
+def own_columns(data):
+    """Why the board's columns are not in the tables, or a token is, or None."""
+    with tempfile.TemporaryDirectory(prefix="tables-", dir=cases.ROOMS) as room:
+        words = [put(f"{room}/dossier.txt", three_windows()), f"{room}/out", "--names", put(f"{room}/tokens.csv", data)]
+        _, said, status = called("tools/tables", words)
+        rows = table(f"{room}/out/allotments.csv") if status == 0 else []
+        if status or rows[0][:3] != ["number", "application_number", "name"] or ["3", "240310123453", "Name 3"] not in [row[:3] for row in rows]:
+            return f"tools/tables --names: status {status}, {said[-200:]}, {rows[:2]}"
+        wrote = b"".join(open(f"{at}/{it}", "rb").read() for at, _, names in os.walk(f"{room}/out") for it in names)
+        modes = {it: os.stat(f"{room}/out/{it}").st_mode & 0o777 for it in ("allotments.csv", "ranks-final.csv")}
+    if re.search(rb"tok\d{5}|clerk0001", wrote):
+        return "tools/tables --names: a table has a token"
+    return None if modes == {"allotments.csv": 0o600, "ranks-final.csv": 0o644} else f"tools/tables: the modes of the tables are {modes}"
+
+
+# forms in which a spreadsheet writes the table of tokens
+FORMS = (TOKENS.encode(), TOKENS.replace(",", ";").encode("utf-16"), ("\ufeff" + TOKENS.replace("number,app", "candidate,app", 1)).encode())
+
+
+def faults(count):
+    """All that is looked at without a program, with that many drawn seasons."""
+    tried = [*drawn(count), *spoiled(), other_words, *(functools.partial(own_columns, it) for it in FORMS)]
+    with concurrent.futures.ThreadPoolExecutor(os.cpu_count()) as lanes:
+        return [*codes_stay(), *(it for it in lanes.map(lambda call: call(), tried) if it)]
+
+
+# ---- over a program
+
+
+def ran(program, words, given, room):
+    wrote, status = cases.called(program, words, given, room)
+    assert status == 0, f"{words}: status {status}, {wrote[-200:]!r}"
+    return wrote
+
+
+def dossier_of(program, words):
+    """The dossier that tools/dossier makes."""
+    wrote, said, status = called("tools/dossier", words, OFFICE=program)
+    assert status == 0, f"tools/dossier: status {status}, {said[-200:]}"
+    return wrote
+
+
+def of_generated(program, count, seed):
+    """Why the tables of a generated season are not those of the plain program, or None. Most candidates float, some freeze, and some say nothing."""
+    with tempfile.TemporaryDirectory(prefix="tables-", dir=cases.ROOMS) as room:
+        bundle = ran(program, ["generate", str(count), str(seed), "text"], b"", room).decode()
+        rounds, people = int(re.search(r"^rounds,(\d+)", bundle, re.M)[1]), re.findall(r"^(\d+),(?:GEN|EWS|OBC|SC|ST),", bundle, re.M)
+        script = ["cut,clerk,0"]
+        for window in range(1, rounds + 1):
+            script += [f"answer,{it},{it},{window},1,{'freeze' if int(it) % 5 == 0 else 'float'}" for it in people if int(it) % 7 or window > 2]
+            script.append(f"cut,clerk,{window}")
+        path = put(f"{room}/bundle.txt", bundle + "[requests]\n" + "".join(f"{it}\n" for it in script))
+        dossier = dossier_of(program, [path])
+    return of_dossier(f"generate {count} {seed}", dossier.encode())
+
+
+TWO_STATES = b"answer,1,1,1,1,freeze\nanswer,2,2,1,1,float\ncut,clerk,1\ncut,clerk,2\n"
+
+
+def of_divided(program):
+    """Why the tables of the example with two states are not those of the plain program, or a unit has no quota, or None."""
+    with open(f"{TOP}/examples/two-states/divided.txt", "rb") as it:
+        bundle = it.read() + TWO_STATES
+    with tempfile.TemporaryDirectory(prefix="tables-", dir=cases.ROOMS) as room:
+        ran(program, ["units", "season.db"], bundle, room)
+        dossier = dossier_of(program, ["--store", f"{room}/season.db"])
+    found = plain_tables.ranks(plain_tables.Plain(dossier), "final")
+    if found != [["I1", "N", "HS", "OPEN", "Gender-Neutral", "2", "2"], ["I1", "N", "OS", "OPEN", "Gender-Neutral", "1", "1"]]:
+        return f"checks/plain_tables.py: the ranks of two-states are {found}"
+    return of_dossier("examples/two-states", dossier.encode())
+
+
+def trials(program, long):
+    """What is tried over a program, each a call that gives a fault or None."""
+    yield functools.partial(of_generated, program, 300 if long else 40, 7)
+    yield functools.partial(of_divided, program)
