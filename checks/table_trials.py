@@ -1,4 +1,4 @@
-"""tools/tables, held against a plain program and on spoiled files.
+"""tools/tables and tools/letters, held against a plain program and on spoiled files.
 
 Without a program: the tables of drawn seasons, whose papers the plain office made, are those of checks/plain_tables.py. Over a program: the same for generated and
 divided seasons, whose dossiers tools/dossier makes."""
@@ -209,7 +209,7 @@ def other_words():
     """Why the status of a call with a missing file, with other words or with --help is another one, or None."""
     with tempfile.TemporaryDirectory(prefix="tables-", dir=cases.ROOMS) as room:
         here = put(f"{room}/dossier.txt", three_windows())
-        calls = [("tables", [f"{room}/none.txt", f"{room}/out"], 1), ("tables", [here], 2), ("tables", ["--help"], 0)]
+        calls = [("tables", [f"{room}/none.txt", f"{room}/out"], 1), ("tables", [here], 2), ("tables", ["--help"], 0), ("letters", ["--check", "x", f"{room}/none"], 10), ("letters", [here], 2)]
         wrong = [f"{tool} {words}: {status}" for tool, words, wanted in calls for _, _, status in [called(f"tools/{tool}", words)] if status != wanted]
     return f"tools: the statuses of other calls are {wrong}" if wrong else None
 
@@ -233,9 +233,77 @@ def own_columns(data):
 FORMS = (TOKENS.encode(), TOKENS.replace(",", ";").encode("utf-16"), ("\ufeff" + TOKENS.replace("number,app", "candidate,app", 1)).encode())
 
 
+# ---- letters
+
+
+def pages_of(pdf):
+    """The text of each page of a PDF, or None if pdftotext is missing."""
+    try:
+        return subprocess.run(["pdftotext", "-layout", pdf, "-"], stdout=subprocess.PIPE, check=True).stdout.decode().split("\f")[:-1]
+    except FileNotFoundError:
+        return None
+
+
+def why_letters_differ(room):
+    """Why the letters do not say what the season and the board's tables say, or a code is not confirmed, or None."""
+    with open(f"{room}/let/codes-final.csv", encoding="utf-8-sig", newline="") as it:
+        header, *rows = [[shown(field) for field in row] for row in csv.reader(it)]
+    letters = [dict(zip(header, row)) for row in rows]
+    if [(it["Candidate number"], it["Name"], it["Programme"], it["Report at"]) for it in letters][:1] != [("3", "Name 3", "Mechanics (B)", "Main office")] or len(letters) != 4:
+        return f"codes-final.csv has {letters[:1]}"
+    pages = pages_of(f"{room}/let/letters-final.pdf")
+    if pages is not None and (len(pages) != 4 or any(value not in page for it, page in zip(letters, pages) for value in it.values() if value)):
+        return "a page does not say what codes-final.csv has"
+    code = letters[0]["code"]
+    for written, status, said_of in ((code, 0, "Name: Name 3"), (code.lower().replace("-", " "), 0, "Programme: Mechanics"), ("0000-0000-0000-0000", 10, "no letter has"), ("x", 10, "is no code")):
+        wrote, said, came = called("tools/letters", ["--check", written, f"{room}/let"])
+        if came != status or said_of not in wrote:
+            return f"--check {written}: status {came}, {wrote[-200:]} {said[-200:]}"
+    with open(f"{room}/let/codes-final.csv", encoding="utf-8") as it:
+        put(f"{room}/let/codes-final.csv", it.read().replace("Mechanics", "Medicine"))
+    wrote, _, came = called("tools/letters", ["--check", code, f"{room}/let"])
+    return None if came == 10 and "was changed" in wrote else f"--check of a row that was changed: status {came}, {wrote}"
+
+
+LETTER_FILES = {"--names": TOKENS, "--codes": "programme,B,Mechanics\nboard,,Joint Board\n", "--report": "institute,date,place\nI3,3 August,Hall 2\n,4 August,Main office\n"}
+# files of letters that are spoiled, and what the tool says of them
+SPOILED_LETTERS = (
+    ("--report", "institute,date\nI3,3 August\n", "there is no column `place`"),
+    ("--report", "institute,date,place\nI3,,Hall\n", r"row 2, column date \(B\): nothing"),
+    ("--names", TOKENS.replace("\n3,", "\n13,"), "1 candidates with a seat have no row: 3"),
+    ("--names", TOKENS.replace("name\n", "Application Number\n"), "has the name of another row"),
+)
+
+
+def letters():
+    """Why letters with names, places to report and codes are not as they should be, or None."""
+    with tempfile.TemporaryDirectory(prefix="letters-", dir=cases.ROOMS) as room:
+        words = [put(f"{room}/dossier.txt", three_windows())]
+        for option, text in LETTER_FILES.items():
+            words += [option, put(f"{room}/{option[2:]}.csv", text)]
+        _, said, status = called("tools/letters", [*words, f"{room}/let"])
+        if status == 1 and "apt-get install python3-gi" in said:
+            print("checks/repository: the library of tools/letters is missing, so no letter was written", flush=True)
+            return None
+        why = said[-300:] if status else why_letters_differ(room)
+    return why and f"tools/letters: status {status}: {why}"
+
+
+def spoiled_letters():
+    for option, data, said_of in SPOILED_LETTERS:
+        words = [word for it, text in {**LETTER_FILES, option: data}.items() for word in (it, text.encode())]
+        yield functools.partial(why_spoiled_letters, words, said_of)
+
+
+def why_spoiled_letters(words, said_of):
+    """Why a spoiled file of the letters is taken, or None; without the library nothing is looked at."""
+    why = why_taken("letters", [three_windows().encode(), *words], said_of)
+    return None if why and "apt-get install python3-gi" in why else why
+
+
 def faults(count):
     """All that is looked at without a program, with that many drawn seasons."""
-    tried = [*drawn(count), *spoiled(), other_words, *(functools.partial(own_columns, it) for it in FORMS)]
+    tried = [*drawn(count), *spoiled(), *spoiled_letters(), other_words, letters, *(functools.partial(own_columns, it) for it in FORMS)]
     with concurrent.futures.ThreadPoolExecutor(os.cpu_count()) as lanes:
         return [*codes_stay(), *(it for it in lanes.map(lambda call: call(), tried) if it)]
 
