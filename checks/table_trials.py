@@ -1,4 +1,4 @@
-"""tools/tables and tools/letters, held against a plain program and on spoiled files.
+"""tools/tables, tools/letters, tools/left and `counts --names`, held against plain programs and on spoiled files.
 
 Without a program: the tables of drawn seasons, whose papers the plain office made, are those of checks/plain_tables.py. Over a program: the same for generated and
 divided seasons, whose dossiers tools/dossier makes."""
@@ -354,7 +354,30 @@ def of_divided(program):
     return of_dossier("examples/two-states", dossier.encode())
 
 
+def left_and_special(program):
+    """Why the seat of a candidate who left after the final list is not given by the special round, or a wrong table of those who left is taken, or None."""
+    with open(f"{TOP}/examples/vacant-seats/bundle.txt", "rb") as it:
+        bundle = it.read()
+    with tempfile.TemporaryDirectory(prefix="left-", dir=cases.ROOMS) as room:
+        put(f"{room}/dossier.txt", dossier_of(program, [put(f"{room}/bundle.txt", bundle)]))
+        put(f"{room}/left.csv", "number,since\n2,3 August\n")
+        wrote, said, status = called("tools/left", [f"{room}/dossier.txt", f"{room}/left.csv"], OFFICE=program)
+        if status:
+            return f"tools/left: status {status}: {said[-200:]}"
+        ran(program, ["run", "again.db"], wrote.encode(), room)
+        special = ran(program, ["special", "again.db"], b"candidate,programmes\n4,A,E\n2,E\n", room).decode()
+        if special != "special seats 3 seated 2\nround 1 seated 2\nallot 2 E OPEN\nallot 4 A OPEN\nend round\n":
+            return f"tools/left: the special round is {special!r}"
+        _, said, status = called("tools/left", [f"{room}/dossier.txt", put(f"{room}/other.csv", "number\n4\n")], OFFICE=program)
+        early = put(f"{room}/early.txt", dossier_of(program, [put(f"{room}/bundle.txt", bundle[: bundle.rindex(b"cut,clerk")])]))
+        _, told, other = called("tools/left", [early, f"{room}/left.csv"], OFFICE=program)
+    if status != 3 or "candidate 4 has no final admission" not in said or other != 3 or "the last cut is not made" not in told:
+        return f"tools/left of wrong tables: {status} {said[-200:]} {other} {told[-200:]}"
+    return None
+
+
 def trials(program, long):
     """What is tried over a program, each a call that gives a fault or None."""
     yield functools.partial(of_generated, program, 300 if long else 40, 7)
     yield functools.partial(of_divided, program)
+    yield functools.partial(left_and_special, program)
