@@ -376,8 +376,28 @@ def left_and_special(program):
     return None
 
 
+def who_is_silent(program):
+    """Why `counts --names` does not name those who have not answered, with the board's columns and without a token, or None."""
+    with open(f"{TOP}/examples/three-windows/bundle.txt", "rb") as it:
+        bundle = it.read().partition(b"answer,4")[0]
+    with tempfile.TemporaryDirectory(prefix="counts-", dir=cases.ROOMS) as room:
+        ran(program, ["run", "season.db"], bundle, room)
+        put(f"{room}/tokens.csv", TOKENS)
+        wrote, said, status = called("deploy/counts", [f"{room}/season.db", "--names", f"{room}/tokens.csv"])
+        rows = [[shown(it) for it in row] for row in csv.reader(wrote.removeprefix("\ufeff").splitlines())]
+        spoiled = called("deploy/counts", [f"{room}/season.db", "--names", put(f"{room}/other.csv", "x,y\n1,2\n")])
+        absent = called("deploy/counts", [f"{room}/season.db", "--names", f"{room}/none.csv"])
+    wanted = [["number", "application_number", "name", "institute", "programme", "step"], ["4", "240310123454", "Name 4", "I3", "E", "OPEN"]]
+    if status or rows != wanted or "window 1: 1 have no answer yet" not in said:
+        return f"counts --names: status {status}, {rows}, {said[-200:]}"
+    if spoiled[0] or spoiled[2] != 3 or "there is no column `number`" not in spoiled[1] or absent[2] != 3 or "cannot be read" not in absent[1]:
+        return f"counts --names of a spoiled table: {spoiled} {absent}"
+    return None
+
+
 def trials(program, long):
     """What is tried over a program, each a call that gives a fault or None."""
     yield functools.partial(of_generated, program, 300 if long else 40, 7)
     yield functools.partial(of_divided, program)
     yield functools.partial(left_and_special, program)
+    yield functools.partial(who_is_silent, program)

@@ -3,6 +3,7 @@
 A spreadsheet reads `007` as 7, `1E5` as 100000, `3-4` as a day, and a field that begins with = as a formula. Such a field is written as ="007", which both
 programs show as the text that it was. All other fields are written plainly. `plain` of a field gives the text back."""
 import csv
+import io
 import os
 import re
 from typing import Iterable, List, Sequence
@@ -51,11 +52,18 @@ def written(header: Sequence[str], rows: Iterable[Sequence]) -> List[List[str]]:
     return [fields_of([*header]), *(list(row) for row in zip(*columns))]
 
 
+def text(header: Sequence[str], rows: Iterable[Sequence]) -> str:
+    """Returns a table as the text of its file."""
+    out = io.StringIO(newline="")
+    out.write(MARK)
+    csv.writer(out).writerows(written(header, rows))
+    return out.getvalue()
+
+
 def write(path: str, header: Sequence[str], rows: Iterable[Sequence], is_public: bool = False) -> None:
     """Writes a table, whole or not at all. Unless it is public, only its owner may read it."""
     mode = 0o644 if is_public else 0o600
     with open(os.open(f"{path}.part", os.O_CREAT | os.O_WRONLY | os.O_TRUNC, mode), "w", encoding="utf-8", newline="") as it:
         os.fchmod(it.fileno(), mode)
-        it.write(MARK)
-        csv.writer(it).writerows(written(header, rows))
+        it.write(text(header, rows))
     os.replace(f"{path}.part", path)
