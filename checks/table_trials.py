@@ -5,6 +5,7 @@ divided seasons, whose dossiers tools/dossier makes."""
 import concurrent.futures
 import csv
 import functools
+import hashlib
 import os
 import re
 import subprocess
@@ -318,9 +319,10 @@ def ran(program, words, given, room):
 
 
 def dossier_of(program, words):
-    """The dossier that tools/dossier makes."""
+    """The dossier that tools/dossier makes, whose SHA-256 it says."""
     wrote, said, status = called("tools/dossier", words, OFFICE=program)
     assert status == 0, f"tools/dossier: status {status}, {said[-200:]}"
+    assert said == f"dossier: SHA-256 {hashlib.sha256(wrote.encode()).hexdigest()}\n", f"tools/dossier says {said[-200:]}"
     return wrote
 
 
