@@ -250,7 +250,8 @@ def why_letters_differ(room):
     with open(f"{room}/let/codes-final.csv", encoding="utf-8-sig", newline="") as it:
         header, *rows = [[shown(field) for field in row] for row in csv.reader(it)]
     letters = [dict(zip(header, row)) for row in rows]
-    if [(it["Candidate number"], it["Name"], it["Programme"], it["Report at"]) for it in letters][:1] != [("3", "Name 3", "Mechanics (B)", "Main office")] or len(letters) != 4:
+    wanted = {"Candidate number": "3", "Name": "Name 3", "Programme": "Mechanics (B)", "Rank": "3 in Main Test", "Report at": "Main office", "Note": "Bring it."}
+    if len(letters) != 4 or any(letters[0].get(label) != value for label, value in wanted.items()):
         return f"codes-final.csv has {letters[:1]}"
     pages = pages_of(f"{room}/let/letters-final.pdf")
     if pages is not None and (len(pages) != 4 or any(value not in page for it, page in zip(letters, pages) for value in it.values() if value)):
@@ -266,7 +267,7 @@ def why_letters_differ(room):
     return None if came == 10 and "was changed" in wrote else f"--check of a row that was changed: status {came}, {wrote}"
 
 
-LETTER_FILES = {"--names": TOKENS, "--codes": "programme,B,Mechanics\nboard,,Joint Board\n", "--report": "institute,date,place\nI3,3 August,Hall 2\n,4 August,Main office\n"}
+LETTER_FILES = {"--names": TOKENS, "--codes": "programme,B,Mechanics\nboard,,Joint Board\nlist,1,Main Test\n", "--report": "institute,date,place\nI3,3 August,Hall 2\n,4 August,Main office\n"}
 # files of letters that are spoiled, and what the tool says of them
 SPOILED_LETTERS = (
     ("--report", "institute,date\nI3,3 August\n", "there is no column `place`"),
@@ -282,7 +283,7 @@ def letters():
         words = [put(f"{room}/dossier.txt", three_windows())]
         for option, text in LETTER_FILES.items():
             words += [option, put(f"{room}/{option[2:]}.csv", text)]
-        _, said, status = called("tools/letters", [*words, f"{room}/let"])
+        _, said, status = called("tools/letters", [*words, f"{room}/let", "--note", "Bring it."])
         if status == 1 and "apt-get install python3-gi" in said:
             print("checks/repository: the library of tools/letters is missing, so no letter was written", flush=True)
             return None

@@ -2,6 +2,7 @@
 
 tools/tables, tools/letters and deploy/counts share it. An error names the file, the row, the column and the value."""
 import os
+import re
 from typing import Dict, List, NamedTuple
 
 from dossier_papers import Wrong
@@ -11,7 +12,8 @@ NUMBER_COLUMNS = ("number", "candidate", "id")
 SECRET_COLUMNS = ("token",)
 REPORT_COLUMNS = ("institute", "date", "place")
 MOST_NAME = 200
-KINDS = ("programme", "institute", "board", "season")
+# what a row names, and the form of its code
+KINDS = {"programme": "[A-Za-z0-9-]{1,16}", "institute": "[A-Za-z0-9-]{1,16}", "list": "[1-4]", "board": "", "season": ""}
 
 
 class Columns(NamedTuple):
@@ -74,10 +76,11 @@ def columns(path: str) -> Columns:
 
 
 class Names(NamedTuple):
-    """Names for codes of programmes and institutes, and of the board and the season."""
+    """Names for codes of programmes and institutes and for merit lists, and of the board and the season."""
 
     programmes: Dict[str, str]
     institutes: Dict[str, str]
+    lists: Dict[str, str]
     board: str
     season: str
 
@@ -89,23 +92,24 @@ class Names(NamedTuple):
         return self.programmes.get(code) or self.programmes.get(base) or base
 
 
-NO_NAMES = Names({}, {}, "", "")
+NO_NAMES = Names({}, {}, {}, "", "")
+NAME_ROWS = "a row is `programme,CODE,NAME`, `institute,CODE,NAME`, `list,NUMBER,NAME`, `board,,NAME` or `season,,NAME`"
 
 
 def names(path: str) -> Names:
-    """Returns the names of a file in the form of `announce`: rows `programme,CODE,NAME`, `institute,CODE,NAME`, `board,,NAME` and `season,,NAME`."""
+    """Returns the names of a file in the form of `announce`, which may name merit lists too."""
     it = read(path, set(KINDS))
     found: Dict[tuple, str] = {}
     for row, fields in [it.header, *it.rows]:
         kind, code, name = [*(stripped(field) for field in fields), "", "", ""][:3]
-        if kind not in KINDS or bool(code) != (kind in ("programme", "institute")):
-            raise Wrong(f"{path}, row {row}: `{','.join(fields)[:60]}`: a row is `programme,CODE,NAME`, `institute,CODE,NAME`, `board,,NAME` or `season,,NAME`")
+        if kind not in KINDS or not re.fullmatch(KINDS[kind], code):
+            raise Wrong(f"{path}, row {row}: `{','.join(fields)[:60]}`: {NAME_ROWS}")
         if not 1 <= len(name) <= MOST_NAME:
             raise Wrong(f"{path}, row {row}, column C: `{name:.60}`: a name has 1 to {MOST_NAME} letters")
         if found.setdefault((kind, code), name) != name:
             raise Wrong(f"{path}, row {row}, column C: `{name:.60}`: an earlier row has another name for this {kind}")
     by_kind = {kind: {code: name for (other, code), name in found.items() if other == kind} for kind in KINDS}
-    return Names(by_kind["programme"], by_kind["institute"], by_kind["board"].get("", ""), by_kind["season"].get("", ""))
+    return Names(by_kind["programme"], by_kind["institute"], by_kind["list"], by_kind["board"].get("", ""), by_kind["season"].get("", ""))
 
 
 class Reporting(NamedTuple):
