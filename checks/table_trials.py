@@ -231,7 +231,8 @@ def own_columns(data):
 
 
 # forms in which a spreadsheet writes the table of tokens
-FORMS = (TOKENS.encode(), TOKENS.replace(",", ";").encode("utf-16"), ("\ufeff" + TOKENS.replace("number,app", "candidate,app", 1)).encode())
+OFFICE_FORM = "candidate,token,number,application_number,name\nclerk,clerk0001\n" + "".join(f"{it}.0,tok0000{it},{it},24031012345{it},Name {it}\n" for it in range(1, 7))
+FORMS = (OFFICE_FORM.encode(), TOKENS.encode(), TOKENS.replace(",", ";").encode("utf-16"), ("\ufeff" + TOKENS.replace("number,app", "candidate,app", 1)).encode())
 
 
 # ---- letters

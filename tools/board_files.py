@@ -3,12 +3,15 @@
 tools/tables, tools/letters and deploy/counts share it. An error names the file, the row, the column and the value."""
 import os
 import re
-from typing import Dict, List, NamedTuple
+from typing import Dict, Iterable, List, NamedTuple, Optional, Tuple
 
 from dossier_papers import Wrong
-from spreadsheets import Findings, letters, stripped, table
+from formats import NUMBER
+from spreadsheets import Findings, letters, read, stripped
 
 NUMBER_COLUMNS = ("number", "candidate", "id")
+# columns of the file of tokens that repeat the number
+OFFICE_COLUMNS = ("number", "candidate")
 SECRET_COLUMNS = ("token",)
 REPORT_COLUMNS = ("institute", "date", "place")
 MOST_NAME = 200
@@ -32,47 +35,70 @@ class Columns(NamedTuple):
 NO_COLUMNS = Columns([], {})
 
 
-def read(path: str, known):
+class Table(NamedTuple):
+    """A table of the board's: the number and the fields of its first row and of the others, each without blanks around them."""
+
+    first: int
+    header: List[str]
+    rows: List[Tuple[int, List[str]]]
+
+    def column(self, *names: str) -> Optional[int]:
+        """Returns where the first of these columns is that the table has."""
+        small = [it.lower() for it in self.header]
+        return next((small.index(name) for name in names if name in small), None)
+
+
+def table(path: str, known: Iterable[str]) -> Table:
     """Returns a table of the board's; whatever a spreadsheet wrote that is no table is an error."""
     findings = Findings(set())
-    found = table(os.path.dirname(path) or ".", os.path.basename(path), known, findings)
-    if findings.causes or found is None:
-        raise Wrong(f"{path}: {findings.causes[0].partition(': ')[2] if findings.causes else 'it cannot be read'}")
-    return found
+    rows = read(os.path.dirname(path) or ".", os.path.basename(path), {*known}, findings)
+    if findings.causes:
+        raise Wrong(f"{path}: {str(findings.causes[0]).partition(': ')[2]}")
+    if not rows:
+        raise Wrong(f"{path}: it is empty")
+    stripped_rows = [(number, [stripped(it) for it in fields]) for number, fields in rows]
+    width = max(len(fields) for _, fields in stripped_rows)
+    full = [(number, [*fields, *[""] * (width - len(fields))]) for number, fields in stripped_rows]
+    return Table(full[0][0], full[0][1], full[1:])
 
 
 def place_of(path: str, row: int, header: List[str], at: int) -> str:
     return f"{path}, row {row}, column {header[at] if at < len(header) else ''} ({letters(at)})"
 
 
-def number_of(path: str, row: int, header: List[str], at: int, fields: List[str]) -> int:
-    """Returns the number of the candidate of a row."""
-    value = stripped(fields[at]) if at < len(fields) else ""
-    if not (value.isascii() and value.isdecimal() and 0 < int(value) < 10**9):
-        raise Wrong(f"{place_of(path, row, header, at)}: `{value:.60}`: a candidate number is 1 to 999,999,999, as the season has it")
-    return int(value)
+def number_of(path: str, row: int, header: List[str], at: int, value: str) -> int:
+    """Returns the number of the candidate of a row; a spreadsheet may have written 12 as 12.0."""
+    text = re.sub(r"\.0+$", "", value)
+    if not (text.isascii() and text.isdecimal() and NUMBER.has(int(text))):
+        raise Wrong(f"{place_of(path, row, header, at)}: `{value:.60}`: a candidate number is {NUMBER.range()}, as the season has it")
+    return int(text)
+
+
+def own_columns(it: Table, at: int) -> List[int]:
+    """Returns where the board's own columns are: not the numbers and the tokens, nor any column that has a token in it."""
+    token = it.column(*SECRET_COLUMNS)
+    secrets = {fields[token] for _, fields in it.rows if token is not None} - {""}
+    others = [place for place, name in enumerate(it.header) if name and place != at and name.lower() not in (*OFFICE_COLUMNS, *SECRET_COLUMNS)]
+    return [place for place in others if not any(fields[place] in secrets for _, fields in it.rows)]
 
 
 def columns(path: str) -> Columns:
     """Returns the board's own columns from the file of tokens, or from another table with candidate numbers. The tokens stay behind."""
-    it = read(path, {*NUMBER_COLUMNS, *SECRET_COLUMNS})
-    header = [stripped(name) for name in it.header[1]]
-    small = [name.lower() for name in header]
-    at = next((small.index(name) for name in NUMBER_COLUMNS if name in small), None)
+    it = table(path, (*NUMBER_COLUMNS, *SECRET_COLUMNS))
+    at = it.column(*NUMBER_COLUMNS)
     if at is None:
-        raise Wrong(f"{path}, row {it.header[0]}: there is no column `number`, `candidate` or `id` with the numbers of the season")
-    secrets = {fields[place] for name in SECRET_COLUMNS if name in small for place in [small.index(name)] for _, fields in it.rows if place < len(fields)} - {""}
-    is_shown = [place != at and name and small[place] not in SECRET_COLUMNS and not any(place < len(fields) and fields[place] in secrets for _, fields in it.rows) for place, name in enumerate(header)]
-    shown = [place for place, wanted in enumerate(is_shown) if wanted]
+        raise Wrong(f"{path}, row {it.first}: there is no column `number`, `candidate` or `id` with the numbers of the season")
+    numbers = [place for place, name in enumerate(it.header) if name.lower() in NUMBER_COLUMNS]
+    shown = own_columns(it, at)
     found: Dict[int, List[str]] = {}
     for row, fields in it.rows:
-        if at < len(fields) and stripped(fields[at]).lower() == "clerk":
+        if any(fields[place].lower() == "clerk" for place in numbers):
             continue
-        number = number_of(path, row, header, at, fields)
-        own = [stripped(fields[place]) if place < len(fields) else "" for place in shown]
+        number = number_of(path, row, it.header, at, fields[at])
+        own = [fields[place] for place in shown]
         if found.setdefault(number, own) != own:
-            raise Wrong(f"{place_of(path, row, header, at)}: `{number}`: an earlier row of this candidate has other values")
-    return Columns([header[place] for place in shown], found)
+            raise Wrong(f"{place_of(path, row, it.header, at)}: `{number}`: an earlier row of this candidate has other values")
+    return Columns([it.header[place] for place in shown], found)
 
 
 class Names(NamedTuple):
@@ -98,12 +124,12 @@ NAME_ROWS = "a row is `programme,CODE,NAME`, `institute,CODE,NAME`, `list,NUMBER
 
 def names(path: str) -> Names:
     """Returns the names of a file in the form of `announce`, which may name merit lists too."""
-    it = read(path, set(KINDS))
+    it = table(path, KINDS)
     found: Dict[tuple, str] = {}
-    for row, fields in [it.header, *it.rows]:
-        kind, code, name = [*(stripped(field) for field in fields), "", "", ""][:3]
+    for row, fields in [(it.first, it.header), *it.rows]:
+        kind, code, name = [*fields, "", "", ""][:3]
         if kind not in KINDS or not re.fullmatch(KINDS[kind], code):
-            raise Wrong(f"{path}, row {row}: `{','.join(fields)[:60]}`: {NAME_ROWS}")
+            raise Wrong(f"{path}, row {row}: `{','.join(fields).rstrip(',')[:60]}`: {NAME_ROWS}")
         if not 1 <= len(name) <= MOST_NAME:
             raise Wrong(f"{path}, row {row}, column C: `{name:.60}`: a name has 1 to {MOST_NAME} letters")
         if found.setdefault((kind, code), name) != name:
@@ -121,17 +147,16 @@ class Reporting(NamedTuple):
 
 def reporting(path: str) -> Dict[str, Reporting]:
     """Returns where the candidates of each institute report; the institute of a row may be empty, for all that have no row."""
-    it = read(path, set(REPORT_COLUMNS))
-    small = [stripped(name).lower() for name in it.header[1]]
-    missing = [name for name in REPORT_COLUMNS if name not in small]
-    if missing:
-        raise Wrong(f"{path}, row {it.header[0]}: there is no column `{missing[0]}`; needed are {', '.join(REPORT_COLUMNS)}")
+    it = table(path, REPORT_COLUMNS)
+    places = [it.column(name) for name in REPORT_COLUMNS]
+    if None in places:
+        raise Wrong(f"{path}, row {it.first}: there is no column `{REPORT_COLUMNS[places.index(None)]}`; needed are {', '.join(REPORT_COLUMNS)}")
     found: Dict[str, Reporting] = {}
     for row, fields in it.rows:
-        institute, date, place = (stripped(fields[small.index(name)]) if small.index(name) < len(fields) else "" for name in REPORT_COLUMNS)
+        institute, date, place = (fields[at] for at in places if at is not None)
         if not date or not place:
-            at = small.index("date" if not date else "place")
-            raise Wrong(f"{place_of(path, row, it.header[1], at)}: nothing: a row has a date and a place")
+            at = places[1] if not date else places[2]
+            raise Wrong(f"{place_of(path, row, it.header, at or 0)}: nothing: a row has a date and a place")
         if found.setdefault(institute, Reporting(date, place)) != (date, place):
-            raise Wrong(f"{place_of(path, row, it.header[1], small.index('institute'))}: `{institute}`: an earlier row has this institute too")
+            raise Wrong(f"{place_of(path, row, it.header, places[0] or 0)}: `{institute}`: an earlier row has this institute too")
     return found
