@@ -3,6 +3,7 @@
 A spreadsheet reads `007` as 7, `1E5` as 100000, `3-4` as a day, and a field that begins with = as a formula. Such a field is written as ="007", which both
 programs show as the text that it was. All other fields are written plainly. `plain` of a field gives the text back."""
 import csv
+import functools
 import io
 import os
 import re
@@ -19,6 +20,7 @@ CHANGED = re.compile(
 MOST_TEXT = 255
 
 
+@functools.lru_cache(maxsize=1 << 16)
 def is_changed(text: str) -> bool:
     """Returns whether a spreadsheet would read this as something else than the text."""
     return CHANGED.fullmatch(text) is not None and text != "-"
