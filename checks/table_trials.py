@@ -106,6 +106,36 @@ def drawn(count):
         yield functools.partial(of_drawn, f"drawn season {number}", text)
 
 
+def special():
+    """Why the tables and letters with a special round are not as they should be, or a wrong text of one is taken, or None."""
+    folder = f"{TOP}/examples/vacant-seats"
+    with open(f"{folder}/bundle.txt", encoding="ascii") as it:
+        dossier = Dossier(it.read()).given()
+    with tempfile.TemporaryDirectory(prefix="tables-", dir=cases.ROOMS) as room:
+        words = [put(f"{room}/dossier.txt", dossier), f"{room}/out", "--special"]
+        _, said, status = called("tools/tables", [*words, f"{folder}/special.txt"])
+        if status:
+            return f"tools/tables --special: status {status}, {said[-200:]}"
+        seats = [(row[0], row[3], row[6], row[7]) for row in table(f"{room}/out/allotments.csv")[1:]]
+        vacant = [row[-3:] for row in table(f"{room}/out/vacant.csv")[1:]]
+        _, said, status = called("tools/letters", [*words, f"{folder}/special.txt"])
+        letters = [row[1:3] for row in table(f"{room}/out/codes-special.csv")[1:]] if status == 0 else []
+    if seats != [("1", "C", "OPEN", "not published"), ("4", "E", "OPEN", "not published")] or vacant != [["1", "0", "0"]] * 4:
+        return f"tools/tables --special: {seats} {vacant}"
+    title = "Seat allotment letter of the special round"
+    if letters != [[title, "1"], [title, "4"]] and "apt-get install python3-gi" not in said:
+        return f"tools/letters --special: status {status}, {letters}, {said[-200:]}"
+    return None
+
+
+# what `special` did not write, and what the tool says of it
+SPECIALS = (
+    (b"candidate,programmes\n1,C\n", r"line 1: `candidate,programmes`: the text of a special round begins with"),
+    (b"special seats 2 seated 1\nround 1 seated 1\nallot 3 C OPEN\nend round\n", "candidate 3 has a final admission"),
+    (b"special seats 2 seated 1\nround 1 seated 2\nallot 1 C OPEN\nend round\n", r"line 2: `round 1 seated 2`: 1 lines follow it"),
+)
+
+
 # ---- tables that a spreadsheet opens
 
 # fields that a spreadsheet would change, and others
@@ -202,6 +232,8 @@ def spoiled():
         yield functools.partial(why_taken, "tables", [text.encode()], said_of) if count else lambda form=form: f"checks/table_trials.py: {form} is nowhere"
     for option, data, said_of in BOARDS:
         yield functools.partial(why_taken, "tables", [dossier.encode(), option, data], said_of)
+    for data, said_of in SPECIALS:
+        yield functools.partial(why_taken, "tables", [dossier.encode(), "--special", data], said_of)
     for words, said_of in ((["--round", "4"], "published are 1, 2, 3, final"), (["--round", "x"], "published are")):
         yield functools.partial(why_taken, "tables", [dossier.encode(), *words], said_of)
 
@@ -306,7 +338,7 @@ def why_spoiled_letters(words, said_of):
 
 def faults(count):
     """All that is looked at without a program, with that many drawn seasons."""
-    tried = [*drawn(count), *spoiled(), *spoiled_letters(), other_words, letters, *(functools.partial(own_columns, it) for it in FORMS)]
+    tried = [*drawn(count), *spoiled(), *spoiled_letters(), other_words, letters, special, *(functools.partial(own_columns, it) for it in FORMS)]
     with concurrent.futures.ThreadPoolExecutor(os.cpu_count()) as lanes:
         return [*codes_stay(), *(it for it in lanes.map(lambda call: call(), tried) if it)]
 
@@ -352,6 +384,10 @@ def of_divided(program):
     with tempfile.TemporaryDirectory(prefix="tables-", dir=cases.ROOMS) as room:
         ran(program, ["units", "season.db"], bundle, room)
         dossier = dossier_of(program, ["--store", f"{room}/season.db"])
+        _, said, status = called("tools/letters", [put(f"{room}/dossier.txt", dossier), f"{room}/let"])
+        quotas = [] if status else [row[table(f"{room}/let/codes-final.csv")[0].index("Quota")] for row in table(f"{room}/let/codes-final.csv")[1:]]
+    if quotas != ["home state", "other states"] and "apt-get install python3-gi" not in said:
+        return f"tools/letters of two-states: status {status}, {said[-200:]}, the quotas are {quotas}"
     found = plain_tables.ranks(plain_tables.Plain(dossier), "final")
     if found != [["I1", "N", "HS", "OPEN", "Gender-Neutral", "2", "2"], ["I1", "N", "OS", "OPEN", "Gender-Neutral", "1", "1"]]:
         return f"checks/plain_tables.py: the ranks of two-states are {found}"

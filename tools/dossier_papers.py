@@ -1,4 +1,4 @@
-"""Reads the papers of a season: what a dossier says of programmes, people, choices, rounds, lists and final admissions.
+"""Reads the papers of a season: what a dossier says of programmes, people, choices, rounds, lists and final admissions, and the text of a special round.
 
 tools/tables, tools/letters and tools/left share it. Nothing here is proved, and nothing here judges an allocation: `./office audit` does that."""
 import re
@@ -13,6 +13,7 @@ STEPS = (*STEPS_OF_MATRIX, DE_RESERVED)
 HOME, OTHERS = "-HS", "-OS"
 QUOTAS = {HOME: "HS", OTHERS: "OS"}
 ALL_INDIA = "AI"
+FINAL, SPECIAL = "final", "special"
 OTHER_FILES = {b"SQLite format 3\0": "a store: tools/dossier --store makes the dossier of it", b"PK\x03\x04": "a workbook and no dossier"}
 FIRST = re.compile(r"round (\d+) seated (\d+)|final (\d+)|list (\d+) (\S+)")
 ALLOT = re.compile(rf"(?:allot|admit) (\d+) (\S+) ({'|'.join(STEPS)})")
@@ -53,7 +54,7 @@ class Step(NamedTuple):
 
 
 class Seat(NamedTuple):
-    """A seat that a text gives a candidate, with the letter of the protected seat that it fills, or `-`."""
+    """A seat that a text gives a candidate, with the letter of the protected seat that it fills, or `-`; nothing if no list says it, as for the special round."""
 
     number: int
     code: str
@@ -177,6 +178,7 @@ class Papers:
         self.seats: List[Dict[int, tuple]] = []
         self.lists: Dict[tuple, Dict[str, Step]] = {}
         self.final: Optional[Dict[int, tuple]] = None
+        self.special: Optional[Dict[int, tuple]] = None
         self.read(Lines(file, published, first))
 
     # ---- reading
@@ -240,11 +242,27 @@ class Papers:
         lines.taken("end list", "here the line `end list` is expected")
         return found
 
+    def add_special(self, file: str, data: bytes) -> None:
+        """Reads what `special` wrote: its seats go to candidates without a final admission."""
+        if self.final is None:
+            raise Wrong(f"{self.file}: the last cut is not made, so there was no special round")
+        lines = Lines(file, data, 1)
+        lines.taken(r"special seats \d+ seated \d+", "the text of a special round begins with `special seats N seated N`")
+        at = lines.at
+        begun = lines.taken(r"round 1 seated (\d+)", "here the line `round 1 seated N` is expected")
+        self.special = self.text_of(lines, int(begun[1]), "round", at)
+        twice = next((it for it in self.special if it in self.final), None)
+        if twice is not None:
+            raise Wrong(f"{file}: candidate {twice} has a final admission, and so no seat of the special round of this season")
+
     def agrees(self, number: int, seats: Dict[int, tuple]) -> None:
         """Looks whether a round and its lists name the same people."""
         missing = next((code for code in self.programmes if (number, code) not in self.lists), None)
         if missing:
             raise Wrong(f"{self.file}: round {number} has no list of {missing}: tools/dossier writes a dossier with all lists")
+        unranked = next((cand for cand, (code, _) in seats.items() if not self.people[cand].place(self.programmes[code].merit)), None)
+        if unranked is not None:
+            raise Wrong(f"{self.file}: candidate {unranked} has a seat of {seats[unranked][0]}, and no place in its merit list: have the dossier audited")
         listed = {cand: (code, step) for code in self.programmes for step, it in self.lists[number, code].items() for cand in it.admitted}
         for cand in sorted({*seats, *listed}):
             if seats.get(cand) != listed.get(cand):
@@ -254,26 +272,29 @@ class Papers:
     # ---- what was published
 
     def newest(self) -> Optional[str]:
-        """Returns the name of the newest text: `final`, or the number of the last round."""
-        return "final" if self.final is not None else str(len(self.seats)) if self.seats else None
+        """Returns the name of the newest text: `special`, `final`, or the number of the last round."""
+        return (self.names() or [None])[-1]
 
     def names(self) -> List[str]:
         """Returns the names of all texts, the oldest first."""
-        return [*(str(number) for number in range(1, len(self.seats) + 1)), *(["final"] if self.final is not None else [])]
+        later = [name for name, seats in ((FINAL, self.final), (SPECIAL, self.special)) if seats is not None]
+        return [*(str(number) for number in range(1, len(self.seats) + 1)), *later]
 
     def steps(self, name: str, code: str) -> Dict[str, Step]:
-        """Returns the list of a programme that goes with a text; the final admissions go with the last round."""
-        return self.lists[len(self.seats) if name == "final" else int(name), code]
+        """Returns the list of a programme that goes with a text; the last round goes with the final admissions and the special round."""
+        return self.lists[len(self.seats) if name in (FINAL, SPECIAL) else int(name), code]
 
     def seats_of(self, name: str) -> List[Seat]:
         """Returns the seats of a text by programme, step and merit place."""
-        text = self.final if name == "final" else self.seats[int(name) - 1]
+        text = self.final if name == FINAL else self.special if name == SPECIAL else self.seats[int(name) - 1]
         assert text is not None
         order = {code: at for at, code in enumerate(self.programmes)}
         found = [Seat(cand, code, step, self.letter(name, cand, code, step)) for cand, (code, step) in text.items()]
         return sorted(found, key=lambda it: (order[it.code], STEPS.index(it.step), place_number(self.place(it))))
 
     def letter(self, name: str, cand: int, code: str, step: str) -> str:
+        if name == SPECIAL:
+            return ""
         admitted = self.steps(name, code)[step].admitted
         if cand not in admitted:
             raise Wrong(f"{self.file}: candidate {cand} has {code} {step} in the final admissions, and not in the last round: have the dossier audited")
@@ -320,7 +341,21 @@ def rounds_of(rows: Rows) -> int:
     return int(rows.field(found, 1, ALLOWED["rounds"], lambda it: re.fullmatch("[1-9]|10", it)))
 
 
-def papers(path: str) -> Papers:
-    """Returns the papers of a dossier's file."""
+def papers(path: str, special: Optional[str] = None) -> Papers:
+    """Returns the papers of a dossier's file, with the special round whose text is in another file."""
     with open(path, "rb") as it:
-        return Papers(path, it.read())
+        found = Papers(path, it.read())
+    if special is not None:
+        with open(special, "rb") as it:
+            found.add_special(special, it.read())
+    return found
+
+
+def chosen_text(it: Papers, asked: Optional[str]) -> str:
+    """Returns the name of the text that is asked for, or of the newest."""
+    newest = it.newest()
+    if newest is None:
+        raise Wrong(f"{it.file}: no round is published yet")
+    if asked is None or asked in it.names():
+        return asked or newest
+    raise Wrong(f"--round {asked}: published are {', '.join(it.names())}")
