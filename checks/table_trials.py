@@ -198,6 +198,7 @@ DOSSIERS = (
 # a table of the board's that is spoiled, and what the tools say of it
 BOARDS = (
     ("--names", b"", "it is empty"),
+    ("--names", TOKENS.replace("Name 3", "Zo\xeb").encode("cp1252"), r"line 5: the byte EB begins no letter of UTF-8"),
     ("--names", b"PK\x03\x04rest", "it cannot be read|save it as CSV"),
     ("--names", b"name,token\nx,tok00001\n", r"row 1: there is no column `number`, `candidate` or `id`"),
     ("--names", TOKENS.replace("\n3,", "\nthree,").encode(), r"row 5, column number \(A\): `three`: a candidate number is"),

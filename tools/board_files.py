@@ -48,16 +48,30 @@ class Table(NamedTuple):
         return next((small.index(name) for name in names if name in small), None)
 
 
+def look_at_letters(path: str) -> None:
+    """Refuses a file of bytes that are no UTF-8, because names that are read otherwise come out wrong; UTF-16 has zero bytes, and is read too."""
+    with open(path, "rb") as it:
+        data = it.read()
+    try:
+        if b"\0" not in data:
+            data.decode()
+    except UnicodeDecodeError as why:
+        number = data.count(b"\n", 0, why.start) + 1
+        raise Wrong(f"{path}, line {number}: the byte {data[why.start]:02X} begins no letter of UTF-8: save the file as CSV UTF-8 in the spreadsheet program") from None
+
+
 def table(path: str, known: Iterable[str]) -> Table:
     """Returns a table of the board's; whatever a spreadsheet wrote that is no table is an error."""
     findings = Findings(set())
+    if os.path.isfile(path):
+        look_at_letters(path)
     rows = read(os.path.dirname(path) or ".", os.path.basename(path), {*known}, findings)
     if findings.causes:
         raise Wrong(f"{path}: {str(findings.causes[0]).partition(': ')[2]}")
     if not rows:
         raise Wrong(f"{path}: it is empty")
     stripped_rows = [(number, [stripped(it) for it in fields]) for number, fields in rows]
-    width = max(len(fields) for _, fields in stripped_rows)
+    width = max(2, *(len(fields) for _, fields in stripped_rows))
     full = [(number, [*fields, *[""] * (width - len(fields))]) for number, fields in stripped_rows]
     return Table(full[0][0], full[0][1], full[1:])
 

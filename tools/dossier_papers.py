@@ -1,6 +1,7 @@
 """Reads the papers of a season: what a dossier says of programmes, people, choices, rounds, lists and final admissions, and the text of a special round.
 
 tools/tables, tools/letters and tools/left share it. Nothing here is proved, and nothing here judges an allocation: `./office audit` does that."""
+import csv
 import re
 from typing import Dict, List, NamedTuple, Optional
 
@@ -70,7 +71,10 @@ class Rows:
 
     def __init__(self, file: str, name: str, section):
         self.file, self.name, self.section = file, name, section
-        self.rows = numbered_rows(section.body)
+        try:
+            self.rows = numbered_rows(section.body)
+        except csv.Error as why:
+            raise Wrong(f"{file}, line {section.line} and after it, [{name}]: these are no comma-separated records: {why}") from None
 
     def wrong(self, row, at: int, allowed: str) -> Wrong:
         column = HEADERS.get(self.name, ())[at : at + 1] or (f"field {at + 1}",)
