@@ -362,16 +362,10 @@ def dossier_of(program, words):
 
 
 def of_generated(program, count, seed):
-    """Why the tables of a generated season are not those of the plain program, or None. Most candidates float, some freeze, and some say nothing."""
+    """Why the tables of a generated season, which has its answers and cuts, are not those of the plain program, or None."""
     with tempfile.TemporaryDirectory(prefix="tables-", dir=cases.ROOMS) as room:
-        bundle = ran(program, ["generate", str(count), str(seed), "text"], b"", room).decode()
-        rounds, people = int(re.search(r"^rounds,(\d+)", bundle, re.M)[1]), re.findall(r"^(\d+),(?:GEN|EWS|OBC|SC|ST),", bundle, re.M)
-        script = ["cut,clerk,0"]
-        for window in range(1, rounds + 1):
-            script += [f"answer,{it},{it},{window},1,{'freeze' if int(it) % 5 == 0 else 'float'}" for it in people if int(it) % 7 or window > 2]
-            script.append(f"cut,clerk,{window}")
-        path = put(f"{room}/bundle.txt", bundle + "[requests]\n" + "".join(f"{it}\n" for it in script))
-        dossier = dossier_of(program, [path])
+        bundle = ran(program, ["generate", str(count), str(seed), "text"], b"", room)
+        dossier = dossier_of(program, [put(f"{room}/bundle.txt", bundle)])
     return of_dossier(f"generate {count} {seed}", dossier.encode())
 
 
