@@ -49,6 +49,7 @@ function stepPicture(step, protect, own) {
     el("p", {}, `${SEATS.summary(step)} ${step.name === "D" ? "" : SEATS.protections(step.honoured, all)}`),
     fault && el("p", { class: "say bad" }, SEATS.wrong(fault)),
     grid(step, boxes(step, own)),
+    step.honoured > 0 && el("p", { class: "hint" }, SEATS.lettersSay),
     hidden > 0 && el("p", {}, SEATS.moreEmpty(hidden)),
     unfilled.filter(([, left]) => left > 0).map((it) => el("p", {}, SEATS.unfilled(...it))),
   );

@@ -41,7 +41,7 @@ export const LABELS = {
   list4: "List 4",
   showLike: "Show the programmes",
   cutoffsTitle: "Cutoffs of all programmes",
-  cutoffsIntro: "A cutoff is the worst place that a kind of seat would still admit in this round. Candidates know it as the closing rank.",
+  cutoffsIntro: "A cutoff is the worst place that a kind of seat would still admit in this round. It is the place that one candidate more would need, so it may differ from a closing rank, and it is “any place” while a seat is left.",
   search: "Search",
   searchHint: "a name, an institute or a code; leave it empty for all",
   showCutoffs: "Show the cutoffs",
@@ -231,7 +231,7 @@ export const CUTOFFS = {
   caveats: (round) => [
     `These numbers are about ${roundName(round)} and one person more. Two newcomers within a cutoff may not both be admitted.`,
     "A cutoff means this place or a better one. Holding more letters never makes it stricter.",
-    "Open and de-reserved seats are for common places, and the seats of a category are for its members.",
+    "Open (OPEN) and de-reserved (D) seats are for candidates of every category whose place is not relaxed. The seats of a category are for its members alone.",
     "A candidate who chose slide or freeze may be within the cutoff of a programme that they no longer sought.",
   ],
   save: "Save the table",
@@ -263,10 +263,11 @@ export const SEATS = {
   unfilled: (trait, left, all) =>
     `${all === 1 ? "The seat" : `${left} of ${count(all, "seat")}`} protected for ${TRAITS[trait]} ${left === 1 ? "is" : "are"} not filled, because the candidates considered cannot fill more protected seats in all. ${left === 1 ? "It counts as an ordinary seat" : "They count as ordinary seats"}.`,
   list: (step, seats) => `${kindOfSeat(step)}: ${count(seats, "seat")}`,
-  protectedFor: (trait) => `protected: ${TRAITS[trait]} (${trait})`,
-  byMerit: "by merit",
+  protectedFor: (trait) => `fills a seat protected for ${TRAITS[trait]} (${trait})`,
+  byMerit: "fills another seat",
   rank: (rank) => `no. ${figure(rank)} on this list`,
   you: "this is you",
+  lettersSay: "A box says which protected seat a candidate fills. It does not say that the candidate was admitted because of it.",
   empty: "empty",
   moreEmpty: (left) => `${count(left, "more seat is", "more seats are")} empty.`,
   more: (left) => `Show ${count(left, "more seat")}`,
@@ -364,7 +365,7 @@ export const ENTRY = {
   check: "Check this now. An error is mended before round 1 is published, and not after it. Tell the board if anything is wrong.",
   later: "The office works with this entry for the whole season.",
   fields: { category: "Category", traits: "You hold", place: (list) => `Place in merit list ${list}` },
-  place: (place, isCommon) => (isCommon ? `${figure(place)}, a common place` : `${figure(place)}, a relaxed place: it counts for the seats of your category alone`),
+  place: (place, isCommon) => (isCommon ? `${figure(place)}, a common place: it counts for open seats too` : `${figure(place)}, a relaxed place: it counts for the seats of your category alone`),
   noPlace: "none",
 };
 
