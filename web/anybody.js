@@ -1,10 +1,11 @@
 /** The page for anybody: how far the season is, the cutoffs, the seats of a programme, the text of a round, and the two questions of a refusal. */
 import { askList, askRound, askState, hasPaper } from "./ask.js";
-import { $, busy, clear, details, dropLinks, el, onPress, onSend, ready, saveLink, say, table, textBox, valueOf, verbatim } from "./dom.js";
+import { $, busy, clear, details, dropLinks, el, onPress, onSend, ownWords, ready, saveLink, say, table, textBox, valueOf, verbatim } from "./dom.js";
 import { fillLike, showCutoffs, showLike } from "./finder.js";
 import { listPicture } from "./picture.js";
 import { isCandidate, isCode, lineOf, readList, readRound, readSheet, twoQuestions, Unreadable } from "./rule.js";
-import { announcedEnd, instituteName, instituteOf, lookAgain, papersCome, programmeName, programmeOf, showEnd, showNotice, showState } from "./season.js";
+import { announcedEnd, instituteName, instituteOf, lookAgain, papersCome, programmeName, programmeOf, showContact, showEnd, showNotice, showState } from "./season.js";
+import { startVisit } from "./visit.js";
 import { ARRIVING, ASKING, EXAMPLE, FAULTS, MOCK, NOT_DISABILITY, OWN_WORDS, QUESTIONS, ROUND, SEATS, trouble } from "./words.js";
 
 const MOST_LINES = 400;
@@ -56,7 +57,7 @@ async function showList() {
   if (!round) return say(said, "bad", FAULTS.round);
   say(said, "plain", ASKING);
   const [got] = await Promise.all([askList(round, code), papersCome()]);
-  if (got.body?.reply !== "list") return say(said, "bad", trouble(got));
+  if (got.body?.reply !== "list") return say(said, "bad", trouble(got), ownWords(got));
   say(said, "plain");
   const { text } = got.body;
   try {
@@ -90,7 +91,7 @@ async function showRound() {
   const [round, isFinal] = [chosen === MOCK ? MOCK : Number(chosen), Number(chosen) > season.rounds];
   const name = isFinal ? "final.txt" : round === MOCK ? "mock-round.txt" : `round-${round}.txt`;
   const got = await askRound(name, round === MOCK ? null : round, { came: (bytes) => bytes > LONG && say(said, "plain", ARRIVING(bytes)) });
-  if (got.body?.reply !== "round") return say(said, "bad", got.trouble === "broken" ? ROUND.missing : trouble(got));
+  if (got.body?.reply !== "round") return say(said, "bad", got.trouble === "broken" ? ROUND.missing : trouble(got), ownWords(got));
   await papersCome();
   const { text } = got.body;
   say(said, "plain", ...summary(round, isFinal, text, Number(wanted)));
@@ -174,5 +175,7 @@ onPress($("example"), () => {
 });
 lookAgain(lookWhile);
 ready();
+startVisit();
 showNotice($("notice"));
+showContact($("contact"));
 busy(look).then(papersCome);

@@ -1,5 +1,6 @@
 /** Small helpers over the document. No markup is made from text here or anywhere else. */
-import { FAULTS, HIDE_TOKEN, NO, OWN_WORDS, SHOW_TOKEN, SWITCH } from "./words.js";
+import { lineOf } from "./rule.js";
+import { ANSWER, FAULTS, HIDE_TOKEN, NO, OWN_WORDS, SHOW_TOKEN, SWITCH, TYPED } from "./words.js";
 
 // a text of more lines has a box of its own
 const SHORT = 40;
@@ -34,10 +35,21 @@ export async function busy(then) {
   }
 }
 
-export const button = (text, then, attributes = {}) => el("button", { type: "button", on: { click: () => busy(then) }, ...attributes }, text);
+/** Does what a button is for, and shows on it that this takes a while. A second press meanwhile does nothing. */
+async function pressed(it, then) {
+  if (!it || it.getAttribute("aria-busy") === "true") return;
+  it.setAttribute("aria-busy", "true");
+  try {
+    await busy(then);
+  } finally {
+    it.removeAttribute("aria-busy");
+  }
+}
+
+export const button = (text, then, attributes = {}) => el("button", { type: "button", on: { click: (event) => pressed(event.currentTarget, then) }, ...attributes }, text);
 
 /** Calls `then` when a button of the page is pressed. */
-export const onPress = (it, then) => it.addEventListener("click", () => busy(then));
+export const onPress = (it, then) => it.addEventListener("click", () => pressed(it, then));
 
 /** Puts sentences and elements into a region, in place of what it had. */
 export const show = (region, ...parts) => region.replaceChildren(...parts.flat().filter(Boolean).map((it) => (typeof it === "string" ? el("p", {}, it) : it)));
@@ -52,7 +64,7 @@ export const clear = (...regions) => regions.forEach((it) => it.replaceChildren(
 
 /** Opens the page once its listeners are in place: forms may be sent from now on. */
 export function ready() {
-  $("starting").remove();
+  $("starting")?.remove();
   for (const it of document.querySelectorAll("button[data-early]")) it.disabled = false;
   document.documentElement.dataset.ready = "yes";
 }
@@ -61,7 +73,7 @@ export function ready() {
 export function onSend(form, then) {
   form.addEventListener("submit", (event) => {
     event.preventDefault();
-    busy(then);
+    pressed(event.submitter ?? form.querySelector("button.main"), then);
   });
 }
 
@@ -83,7 +95,9 @@ function clearFault(field) {
   else field.removeAttribute("aria-describedby");
 }
 
-function sayFault(field, fault) {
+/** Says at a field what is wrong with what it holds, and leaves it there to be mended. */
+export function sayFault(field, fault) {
+  clearFault(field);
   const id = `${field.id}-fault`;
   field.setAttribute("aria-invalid", "true");
   field.setAttribute("aria-describedby", `${field.getAttribute("aria-describedby") ?? ""} ${id}`.trim());
@@ -98,7 +112,7 @@ export function valuesOf(...fields) {
     const value = clean(field.value);
     clearFault(field);
     if (holds(value)) return { field, value };
-    sayFault(field, fault);
+    sayFault(field, typeof fault === "function" ? fault(value) : fault);
     return { field, value: null };
   });
   const wrong = read.find((it) => it.value === null);
@@ -116,12 +130,20 @@ export function canBeShown(field, press) {
     field.type = isHidden ? "text" : "password";
     press.setAttribute("aria-pressed", String(isHidden));
     press.textContent = isHidden ? HIDE_TOKEN : SHOW_TOKEN;
+    field.dispatchEvent(new Event("shown"));
   });
+}
+
+/** Says below a field for a token how much was typed, and in groups of four what, while the field shows it. */
+export function countSigns(field, region, grouped) {
+  const write = () => (region.textContent = field.value ? TYPED(ungrouped(field.value).length, field.type === "text" ? grouped(ungrouped(field.value)) : "") : "");
+  for (const it of ["input", "shown"]) field.addEventListener(it, write);
 }
 
 /** Hides and empties a field for a token. */
 export function emptyToken(field, press) {
   field.value = "";
+  field.dispatchEvent(new Event("shown"));
   field.type = "password";
   press.setAttribute("aria-pressed", "false");
   press.textContent = SHOW_TOKEN;
@@ -131,20 +153,31 @@ export function emptyToken(field, press) {
 
 const spaced = (text) => text.trim().replace(/\s+/g, " ").toLowerCase();
 
+/** Makes paragraphs of sentences, and a list of those that are in an array. A long list ends with how many more there are. */
+export const paragraphs = (lines, most = 6) =>
+  lines.filter(Boolean).map((it) => {
+    if (!Array.isArray(it)) return typeof it === "string" ? el("p", {}, it) : it;
+    const some = it.length > most ? [...it.slice(0, most - 1), ANSWER.more(it.length - most + 1)] : it;
+    return el("ul", {}, some.map((one) => el("li", {}, one)));
+  });
+
 /** Asks whether to go on, and returns the answer. The first button is No, so that Enter and Escape mean No. With `type` the button Yes opens
- * only when its text is typed. Call it from what `busy` waits for: meanwhile the page waits for a person and is not busy. */
-export function confirmed({ title, lines, yes, grave = false, type = null }) {
-  const confirm = el("button", { value: "yes", class: grave ? "grave" : "main", disabled: type !== null }, yes);
+ * only when its text is typed, and with `tick` when its box is ticked. Call it from what `busy` waits for: meanwhile the page waits for a person
+ * and is not busy. */
+export function confirmed({ title, lines, yes, grave = false, type = null, tick = null }) {
+  const confirm = el("button", { value: "yes", class: grave ? "grave" : "main", disabled: type !== null || tick !== null }, yes);
+  const box = tick && el("input", { type: "checkbox", id: "ticked", on: { change: () => (confirm.disabled = !box.checked) } });
   const look = () => (confirm.disabled = spaced(field.value) !== spaced(type.text));
   const field = type && el("input", { id: "typed", inputmode: type.mode ?? "text", autocomplete: "off", autocapitalize: "off", spellcheck: "false", on: { input: look } });
   const ask = el(
     "dialog",
     { "aria-labelledby": "sure-title", "aria-describedby": "sure-text" },
     el("h2", { id: "sure-title" }, title),
-    el("div", { id: "sure-text" }, lines.map((it) => el("p", {}, it))),
+    el("div", { id: "sure-text" }, paragraphs(lines)),
     el(
       "form",
       { method: "dialog" },
+      box && el("p", {}, el("label", { class: "check", for: "ticked" }, box, ` ${tick}`)),
       field && el("p", {}, el("label", { for: "typed" }, type.label), field),
       el("p", { class: "row" }, el("button", { value: "no", autofocus: true }, NO), confirm),
     ),
@@ -165,9 +198,9 @@ export function confirmed({ title, lines, yes, grave = false, type = null }) {
 /** Answers every open question with No. */
 export const closeQuestions = () => document.querySelectorAll("dialog[open]").forEach((it) => it.close("no"));
 
-/** Asks before a page in another language is opened, if `isIn` says that somebody is signed in: that page does not know the token. */
-export function askBeforeSwitch(isIn) {
-  for (const it of document.querySelectorAll(".languages a")) {
+/** Asks before another page is opened, if `isIn` says that somebody is signed in whom that page will not know. */
+export function askBeforeLeaving(isIn) {
+  for (const it of document.querySelectorAll(".languages a, nav a")) {
     it.addEventListener("click", (event) => {
       if (!isIn()) return;
       event.preventDefault();
@@ -200,6 +233,9 @@ export function closeWarning() {
 
 export const details = (summary, ...inside) => el("details", {}, el("summary", {}, summary), ...inside);
 
+/** Shows a refusal in the office's own words, which have its number and name; nothing where no reply came. */
+export const ownWords = (got) => got.body && details(OWN_WORDS, verbatim(lineOf(got.body)));
+
 /** Shows a text of the office as it is, which is in English; a long one in a box. */
 export const verbatim = (text) => (text.split("\n").length > SHORT ? textBox(text) : el("pre", { lang: "en" }, text));
 
@@ -214,19 +250,17 @@ export function lazyDetails(summary, bring) {
 /** Shows a long text in a box of its own, which can be scrolled by keyboard too. */
 export const textBox = (text, label = OWN_WORDS) => el("pre", { class: "long", lang: "en", tabindex: "0", role: "region", "aria-label": label }, text);
 
-/** Makes a table that can be scrolled by itself where it is wider than the page. Its cells are texts or elements, its first column heads the rows. */
+/** Makes a table, whose rows are cards on a narrow page. Its cells are texts or elements, its first column heads the rows. The roles are said, because
+ * a row that is shown as a card would lose them in some browsers. */
 export function table(caption, columns, rows) {
-  const line = ([first, ...others]) => el("tr", {}, el("th", { scope: "row" }, first), others.map((it) => el("td", {}, it)));
+  const cell = (it, at) => el("td", { role: "cell", "data-column": columns[at + 1] }, it);
+  const line = ([first, ...others]) => el("tr", { role: "row" }, el("th", { scope: "row", role: "rowheader" }, first), others.map(cell));
   return el(
-    "div",
-    { class: "scroll", tabindex: "0", role: "region", "aria-label": caption },
-    el(
-      "table",
-      {},
-      el("caption", {}, caption),
-      el("thead", {}, el("tr", {}, columns.map((it) => el("th", { scope: "col" }, it)))),
-      el("tbody", {}, rows.map(line)),
-    ),
+    "table",
+    { role: "table", class: "cards" },
+    el("caption", {}, caption),
+    el("thead", { role: "rowgroup" }, el("tr", { role: "row" }, columns.map((it) => el("th", { scope: "col", role: "columnheader" }, it)))),
+    el("tbody", { role: "rowgroup" }, rows.map(line)),
   );
 }
 
@@ -265,5 +299,5 @@ export function dropLinks() {
 
 /** Offers programme codes with their names at the fields that ask for one. */
 export function offerCodes(codes) {
-  $("codes").replaceChildren(...codes.map(([value, label]) => el("option", { value, label })));
+  $("codes")?.replaceChildren(...codes.map(([value, label]) => el("option", { value, label })));
 }

@@ -1,7 +1,7 @@
 /** The cutoffs of all programmes on the page for anybody: a table with a search, and the programmes that would admit a place. */
 import { askCutoffs, paper } from "./ask.js";
 import { compared, firstWithin, bySteps, readCutoffs, readCutoffTable, readPlace } from "./cutoffs.js";
-import { $, clear, el, inParts, say, show, table, valuesOf } from "./dom.js";
+import { $, clear, el, inParts, ownWords, say, show, table, valuesOf } from "./dom.js";
 import { isCode, TRAITS } from "./rule.js";
 import { instituteName, instituteOf, papersCome, programmeName, programmeOf } from "./season.js";
 import { ASKING, CATEGORIES, CUTOFFS, FAULTS, HOLDS, kindOfSeat, LIKE, MOCK, NOT_DISABILITY, trouble } from "./words.js";
@@ -27,7 +27,8 @@ async function tableOf(round) {
 const paperName = (kind, round) => (round === MOCK ? `mock-${kind}.csv` : `${kind}-${round}.csv`);
 const roundOf = (select) => (select.value === MOCK ? MOCK : Number(select.value));
 
-const caveats = (round) => el("ul", { class: "hint" }, CUTOFFS.caveats(round).map((it) => el("li", {}, it)), el("li", {}, el("strong", {}, NOT_DISABILITY)));
+const caveats = (round, hasD) => el("ul", { class: "hint" }, CUTOFFS.caveats(round).map((it) => el("li", {}, it)), hasD && el("li", {}, el("strong", {}, NOT_DISABILITY)));
+const hasD = (programmes) => programmes.some((it) => it.lines.some((line) => line.step === "D"));
 
 // ---- all cutoffs, with a search
 
@@ -55,20 +56,22 @@ const isFound = ({ code, institute }, wanted) => `${programmeName(code)} ${insti
 async function showOne(said, out, round, code) {
   if (!isCode(code) || round === MOCK) return say(said, "plain", CUTOFFS.noPaper);
   const got = await askCutoffs(round, code);
-  if (got.body?.reply !== "cutoffs") return say(said, "bad", trouble(got));
+  if (got.body?.reply !== "cutoffs") return say(said, "bad", trouble(got), ownWords(got));
   const { lines } = readCutoffs(got.body.text);
   if (!lines.length) return say(said, "plain", CUTOFFS.nobody);
   say(said, "plain");
   showTable(out, round, [{ code, institute: instituteOf(code) ?? "", lines }]);
 }
 
+/** Shows a row for each programme, with a line for each kind of seat. */
 function showTable(out, round, programmes) {
-  const rows = ({ code, institute, lines }) => bySteps(lines).map((it) => [programmeName(code), instituteName(institute), kindOfSeat(it.step), CUTOFFS.admitted(it.lines)]);
-  const part = (some) => table(CUTOFFS.caption(round, programmes.length), CUTOFFS.columns, some.flatMap(rows));
-  show(out, caveats(round), ...inParts(programmes, AT_ONCE, CUTOFFS.more, part));
+  const line = (it) => el("li", {}, el("strong", {}, kindOfSeat(it.step)), " ", el("span", {}, CUTOFFS.ends(it.lines)));
+  const row = ({ code, institute, lines }) => [programmeName(code), instituteName(institute), el("ul", { class: "ends" }, bySteps(lines).map(line))];
+  const part = (some) => table(CUTOFFS.caption(round, programmes.length), CUTOFFS.columns, some.map(row));
+  show(out, caveats(round, hasD(programmes)), ...inParts(programmes, AT_ONCE, CUTOFFS.more, part));
 }
 
-// ---- which programmes would admit a place
+// ---- which programmes are within the reach of a place
 
 export function fillLike() {
   $("category").append(...Object.entries(CATEGORIES).map(([value, words]) => el("option", { value }, words)));
@@ -92,7 +95,7 @@ export async function showLike() {
   const entry = { category: $("category").value, traits: [...document.querySelectorAll("[data-trait]:checked")].map((it) => it.dataset.trait).join("") };
   const found = all.map((it) => wouldAdmit(it, entry, places)).filter(Boolean);
   say(said, "plain", found.length ? LIKE.caption(round, found.length) : LIKE.none(round));
-  if (found.length) show(out, LIKE.first, caveats(round), ...inParts(found, AT_ONCE, CUTOFFS.more, (some) => table(LIKE.caption(round, found.length), LIKE.columns, some)));
+  if (found.length) show(out, LIKE.first, caveats(round, hasD(all)), ...inParts(found, AT_ONCE, CUTOFFS.more, (some) => table(LIKE.caption(round, found.length), LIKE.columns, some)));
 }
 
 const isPlaceOrNone = (text) => text === "" || readPlace(text) !== null;
@@ -102,5 +105,5 @@ function wouldAdmit({ code, institute, lines }, entry, places) {
   const place = places[(programmeOf(code)?.list ?? 0) - 1];
   const step = place && firstWithin(compared(lines, entry, place));
   if (!step) return null;
-  return [programmeName(code), instituteName(institute), kindOfSeat(step.step), CUTOFFS.admitted([step.best]), place.place];
+  return [programmeName(code), instituteName(institute), kindOfSeat(step.step), CUTOFFS.ends([step.best]), LIKE.ahead(place.place, step.best.place)];
 }

@@ -3,13 +3,16 @@ import { serverTime } from "./ask.js";
 import { readPlace } from "./cutoffs.js";
 import { el, show, verbatim } from "./dom.js";
 import { lineOf, receiptsOf } from "./rule.js";
-import { instituteName, instituteOf, programmeName, programmeOf, seasonTitles } from "./season.js";
-import { ENTRY, kindOfSeat, LETTER, NOT_DISABILITY } from "./words.js";
+import { contact, instituteName, instituteOf, listName, programmeName, programmeOf, seasonTitles } from "./season.js";
+import { CATEGORIES, ENTRY, HOLDS, HOLDS_NOTHING, kindOfSeat, LETTER, NOT_DISABILITY } from "./words.js";
 
 const TOUCHES = ["pointerdown", "keydown"];
 
+/** A line for what the office does not know, such as a name. */
+const byHand = () => el("span", { class: "by-hand" }, LETTER.byHand);
+
 /** The rows of a letter. Those of which the papers say nothing are left out. */
-function rowsOf({ cand, seat, entry, answers, end }, standing) {
+function rowsOf({ cand, seat, entry, answers, end }, standing, help) {
   const { fields } = LETTER;
   const [board, season] = seasonTitles();
   const programme = programmeOf(seat.programme);
@@ -19,20 +22,25 @@ function rowsOf({ cand, seat, entry, answers, end }, standing) {
     [fields.board, board],
     [fields.season, season],
     [fields.candidate, cand],
-    [fields.programme, programmeName(seat.programme)],
+    [fields.name, byHand()],
+    [fields.application, byHand()],
+    [fields.programme, el("strong", {}, programmeName(seat.programme))],
     [fields.institute, instituteOf(seat.programme) && instituteName(instituteOf(seat.programme))],
     [fields.kind, kindOfSeat(seat.step)],
-    [fields.place(programme?.list), place && ENTRY.place(place.place, place.isCommon)],
+    [fields.category, CATEGORIES[entry.category] ?? entry.category],
+    [fields.traits, [...entry.traits].map((it) => HOLDS[it] ?? it).join(", ") || HOLDS_NOTHING],
+    [fields.place(programme && listName(programme.list)), place && ENTRY.place(place.place, place.isCommon)],
     [fields.round, seat.round],
     [fields.standing, standing],
     [fields.end, end && LETTER.time(end)],
     [fields.receipt, last ? el("code", { lang: "en" }, lineOf(last)) : LETTER.noReceipt],
+    [fields.help, help?.text],
   ].filter(([, fact]) => fact);
 }
 
 /** Fills a region with the letter and prints it alone. */
-export function printLetter(region, who, standing, isFinal) {
-  const rows = rowsOf(who, standing).map(([name, fact]) => el("tr", {}, el("th", { scope: "row" }, name), el("td", {}, fact)));
+export async function printLetter(region, who, standing, isFinal) {
+  const rows = rowsOf(who, standing, await contact()).map(([name, fact]) => el("tr", {}, el("th", { scope: "row" }, name), el("td", {}, fact)));
   const own = [who.seat, who.state, who.entry, who.answers].map(lineOf).join("\n");
   show(
     region,

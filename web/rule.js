@@ -138,6 +138,29 @@ export function openNow(seat, state, answers) {
   return { open: openAnswers(seat, left, turns), left, turns };
 }
 
+/** Returns the situation of a candidate, by which a page says first what to do. `choices` is null while it is not here yet. */
+export function situation({ seat, state, choices = null }) {
+  if (seat.standing === "withdrawn" || seat.standing === "noshow") return seat.standing;
+  if (state.now > state.rounds) return seat.programme ? "admitted" : "without";
+  const isEmpty = choices?.programmes.length === 0;
+  if (state.published === 0) return isEmpty ? "earlyEmpty" : "early";
+  if (!seat.programme) return isEmpty ? "waitingEmpty" : "waiting";
+  return seat.standing === "offered" ? "offered" : "kept";
+}
+
+/** Returns where on a list a seat was before the last round, and where it is now, each counted from 1; or null if the candidate did not move up.
+ * `held` is the programme of the seat in the round before. */
+export function moved(choices, held, now) {
+  const [from, to] = [held, now].map((it) => choices.indexOf(it) + 1);
+  return from > to && to > 0 ? { from, to } : null;
+}
+
+/** Returns the programmes that a page looks through, in their order, for the seat of the round before: a seat never moves down. */
+export const heldBefore = (choices, now) => (choices.includes(now) ? choices.slice(choices.indexOf(now)) : []);
+
+/** Returns a token in groups of four, as people read it. */
+export const grouped = (token) => token.match(/.{1,4}/g)?.join(" ") ?? "";
+
 // ---- the sheet of a step and its two questions
 
 /** Reads the sheet of a step: its seats, its protected seats by trait, and its people in merit order. */

@@ -1,8 +1,8 @@
 /** What all pages show of the season: how far it is, when its window closes, the office's notice, and its programmes where they are published. */
 import { askState, freshPaper, jsonPaper, serverTime } from "./ask.js";
-import { details, el, offerCodes, say, verbatim } from "./dom.js";
+import { details, el, offerCodes, ownWords, say, show, verbatim } from "./dom.js";
 import { lineOf } from "./rule.js";
-import { ASKING, CLOSES, NOTICE, OWN_WORDS, named, phase, trouble, WAITING } from "./words.js";
+import { ASKING, called, CLOSES, ENTRY, HELP, NOTICE, OWN_WORDS, named, phase, trouble, WAITING } from "./words.js";
 
 const HALF_MINUTE = 30_000;
 // how often an open page looks whether the season has moved on: seldom, since many pages are open
@@ -11,12 +11,15 @@ const AT_LEAST = 60_000;
 
 let coming = null;
 let known = new Map();
-let names = { programmes: new Map(), institutes: new Map(), titles: [] };
+let names = { programmes: new Map(), short: new Map(), institutes: new Map(), lists: new Map(), titles: [] };
 
 async function fetchPapers() {
   const [season, found] = await Promise.all([jsonPaper("programmes.json"), jsonPaper("names.json")]);
   if (Array.isArray(season?.programmes)) known = new Map(season.programmes.map((it) => [it.code, it]));
-  if (found) names = { programmes: textsOf(found.programmes), institutes: textsOf(found.institutes), titles: [found.board, found.season] };
+  if (found) {
+    const [programmes, short, institutes, lists] = ["programmes", "short", "institutes", "lists"].map((it) => textsOf(found[it]));
+    names = { programmes, short, institutes, lists, titles: [found.board, found.season] };
+  }
   // what is not published yet, or did not arrive, may come later
   if (known.size === 0) coming = null;
   offerCodes([...known.keys()].map((code) => [code, names.programmes.get(code)]));
@@ -36,6 +39,15 @@ export const instituteOf = (code) => known.get(code)?.institute;
 export const programmeName = (code) => named(names.programmes.get(code), code);
 export const instituteName = (code) => named(names.institutes.get(code), code);
 
+/** Returns a programme as people call it: by its short name, or by its name and its institute. */
+export function seatName(code) {
+  const name = names.programmes.get(code);
+  return names.short.get(code) ?? (name ? called(name, names.institutes.get(instituteOf(code))) : code);
+}
+
+/** Returns a merit list by its name, or by its number. */
+export const listName = (number) => names.lists.get(String(number)) ?? ENTRY.list(number);
+
 /** Returns who holds the season and what it is called, each undefined where the papers do not say it. */
 export const seasonTitles = () => names.titles.map((it) => (typeof it === "string" ? it : undefined));
 
@@ -45,12 +57,38 @@ export async function showNotice(region) {
   if (notice?.trim()) region.replaceChildren(el("aside", { class: "box", "aria-label": NOTICE }, el("p", {}, el("strong", {}, NOTICE)), el("p", { class: "lines" }, notice.trim())));
 }
 
+// ---- whom to ask
+
+let help = null;
+
+/** Fetches once whom the board names for questions: a text, which may be in Hindi too, and an address. */
+const helpComes = () => (help ??= jsonPaper("help.json"));
+
+// an address that a browser may open: a page, a mail or a call
+const isAddress = (text) => /^(?:https:\/\/|mailto:|tel:)[^\s]+$/.test(text ?? "");
+
+/** Returns whom to ask as text, and as elements for a sentence; or null where the board has not published it. */
+export async function contact() {
+  const found = await helpComes();
+  const text = [found?.[document.documentElement.lang], found?.text].find((it) => typeof it === "string" && it.trim())?.trim();
+  const address = isAddress(found?.url) ? found.url : null;
+  if (!text && !address) return null;
+  const shown = address?.replace(/^(?:mailto:|tel:)/, "");
+  return { text: [text, shown].filter(Boolean).join(" "), parts: [text, text && address && " ", address && el("a", { href: address }, shown)].filter(Boolean) };
+}
+
+/** Shows whom to ask, after a sentence; or another sentence where the board has not published it. */
+export async function showContact(region, sentence = HELP.ask, otherwise = null) {
+  const found = await contact();
+  show(region, found ? el("p", {}, sentence, " ", ...found.parts) : otherwise);
+}
+
 /** Asks for the state and shows it. Returns it, or null after saying why there is none. */
 export async function showState(region) {
   say(region, "plain", ASKING);
   const got = await askState({ waiting: () => say(region, "plain", WAITING) });
   if (got.body?.reply !== "state") {
-    say(region, "bad", trouble(got));
+    say(region, "bad", trouble(got), ownWords(got));
     return null;
   }
   say(region, "plain", phase(got.body).join(" "), details(OWN_WORDS, verbatim(lineOf(got.body))));
@@ -69,11 +107,11 @@ export async function announcedEnd(state) {
 }
 
 /** Shows when the open window closes, and what is left until then. What is left is counted down, and not read out. */
-export function showEnd(region, state, end) {
+export function showEnd(region, state, end, words = CLOSES) {
   clearInterval(shown);
   region.textContent = "";
   if (end === null) return;
-  const write = () => (region.textContent = CLOSES(state.now, end, end - serverTime()));
+  const write = () => (region.textContent = words(state.now, end, end - serverTime()));
   write();
   // it ends where the page has cleared it
   shown = setInterval(() => (region.textContent ? write() : clearInterval(shown)), HALF_MINUTE);

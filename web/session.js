@@ -1,5 +1,5 @@
-/** Who is signed in. Number and token are in the memory of this page alone, and in no address, log or storage. They are forgotten when
- * somebody signs out, leaves the page, or does not touch it for a quarter of an hour. */
+/** Who is signed in. Number and token are in the memory of a page alone, and in no address, log or storage. They are forgotten when somebody signs
+ * out or does not touch the pages for a quarter of an hour. From one page of a visit to the next hold.js carries them, in memory too. */
 import { askPerson, closeWarning } from "./dom.js";
 import { IDLE_WORDS } from "./words.js";
 
@@ -7,6 +7,11 @@ const IDLE = 15 * 60 * 1000;
 // two minutes before, the page asks whether somebody is there
 const WARNING = 13 * 60 * 1000;
 const TOUCHES = ["keydown", "input", "pointerdown", "wheel", "touchstart"];
+// how often and how long the next page asks for what the one before left: that page may still be going while this one is there
+const ASKS = 8;
+const SOON = 150;
+const VISIT = "visit:";
+const EVERY = 15_000;
 
 /** A sign-in. `signal` ends the requests that are under way when it is forgotten. */
 export class SignIn {
@@ -31,8 +36,9 @@ export class SignIn {
   }
 }
 
-/** Calls `leave` with the cause when the page is left, so that Back shows nothing, and after the idle time. Before that it asks whether somebody
- * is there, if `isIn` says that somebody is signed in. Timers may sleep with the machine, so the clock is looked at too when the page is seen again. */
+/** Calls `leave` with the cause when the page is left, so that Back shows nothing by itself, and after the idle time. Before that it asks whether
+ * somebody is there, if `isIn` says that somebody is signed in. Timers may sleep with the machine, so the clock is looked at too when the page is seen
+ * again. */
 export function leaveInTime(leave, isIn) {
   let touched = Date.now();
   let timers = [];
@@ -58,4 +64,76 @@ export function leaveInTime(leave, isIn) {
   addEventListener("pageshow", look);
   addEventListener("pagehide", () => leave("left"));
   touch();
+}
+
+// ---- one visit over several pages
+
+let worker = null;
+let beat = null;
+
+const tell = (message, ports = []) => worker?.postMessage({ name: window.name, at: Date.now(), ...message }, ports);
+
+/** Tells hold.js again and again who is signed in: a browser may put a page aside before its last message goes out. */
+function holdOn(who) {
+  const put = () => who.token && tell({ value: { cand: who.cand, token: who.token } });
+  clearInterval(beat);
+  beat = setInterval(put, EVERY);
+  put();
+}
+
+/** Starts what carries a sign-in to the next page, and returns whether it can. Where a browser does not allow it, the next page asks for the token
+ * again. The name of the tab says which visit it is, and opens nothing. */
+export async function carry(who) {
+  try {
+    // the one address from which this page may start a script by name
+    const address = globalThis.trustedTypes?.createPolicy("hold", { createScriptURL: () => "/hold.js" }).createScriptURL("") ?? "/hold.js";
+    await navigator.serviceWorker.register(address);
+    worker = (await navigator.serviceWorker.ready).active;
+  } catch {
+    worker = null;
+  }
+  if (!worker || !who.token) return false;
+  window.name = VISIT + [...crypto.getRandomValues(new Uint32Array(4))].map((it) => it.toString(16)).join("");
+  holdOn(who);
+  return true;
+}
+
+/** Leaves a sign-in for the next page of this tab. */
+export function leaveForNext(who) {
+  clearInterval(beat);
+  if (who?.token) tell({ value: { cand: who.cand, token: who.token } });
+}
+
+/** Ends the visit on all pages of this tab. */
+export function endVisit() {
+  clearInterval(beat);
+  if (!window.name.startsWith(VISIT)) return;
+  tell({ isOver: true });
+  window.name = "";
+}
+
+/** Returns the sign-in that the page before left in this tab, or null. */
+export async function takeFromLast() {
+  if (!window.name.startsWith(VISIT)) return null;
+  try {
+    worker = (await navigator.serviceWorker.getRegistration("/"))?.active ?? null;
+    for (let asked = 0; worker && asked < ASKS; asked++) {
+      const found = await taken();
+      if (!found) continue;
+      const who = new SignIn(found.token, { cand: found.cand });
+      holdOn(who);
+      return who;
+    }
+  } catch {
+    worker = null;
+  }
+  return null;
+}
+
+/** Asks once for what the page before left, and returns null if it is not there after a moment. */
+async function taken() {
+  const { port1, port2 } = new MessageChannel();
+  const came = new Promise((then) => (port1.onmessage = ({ data }) => data && then(data)));
+  tell({}, [port2]);
+  return Promise.race([came, new Promise((then) => setTimeout(() => then(null), SOON))]);
 }

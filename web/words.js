@@ -14,7 +14,9 @@ export const LABELS = {
   navAnybody: "Lists and checks",
   navCandidate: "Candidates",
   navClerk: "Clerk",
-  noScript: "These pages need JavaScript, and it is off in this browser.",
+  navHelp: "Help",
+  noScript: "These pages need JavaScript, and it is off in this browser. All that is published can be read without it:",
+  noScriptTexts: "the published rounds, lists and cutoffs as plain files",
   starting: "The page is loading. If nothing else appears, load it again, or use a newer browser: Chrome 92, Firefox 98, Safari 15.4 or later.",
   tooOld: "This browser is too old for these pages. Use a newer one: Chrome 92, Firefox 98, Safari 15.4 or later.",
   footer: "The office's program is proved. These pages, the web server and your browser are not. So each page shows the office's own words next to its explanation, and the office's words count.",
@@ -29,7 +31,7 @@ export const LABELS = {
   anybodyTitle: "Lists and checks",
   anybodyIntro: "Anyone may read who has which seat, see the cutoffs, and check a refusal. You need no token.",
   stateTitle: "How far the season is",
-  likeTitle: "Which programmes would admit a place like mine?",
+  likeTitle: "Which programmes are within my reach?",
   likeIntro: "Fill in what the register has of you. The page compares it with the published cutoffs of a round on this computer, and sends it to nobody.",
   category: "Category",
   holds: "What you hold",
@@ -65,27 +67,30 @@ export const LABELS = {
   candidateHead: "Your seat and your answers - Seat allocation office",
   candidateTitle: "Your seat and your answers",
   signInTitle: "Sign in",
-  number: "Your number",
-  numberHint: "your candidate number, digits only",
+  number: "Your candidate number",
+  numberHint: "the number in the board's letter, not your application number",
   token: "Your token",
-  tokenForm: "letters and digits; blanks do not matter",
-  tokenHint: "The token stays in the memory of this page. It is not stored on this computer. The page forgets it when you leave the page or sign out.",
+  tokenForm: "letters and digits, in groups of four if you like; capital and small letters differ",
+  tokenHint: "You stay signed in on all pages of the office in this tab, until you sign out, close the tab, or nobody touches it for 15 minutes. The token is only in memory, and nothing of it is stored on this computer.",
+  clerkTokenHint: "The token is only in the memory of this page, and nothing of it is stored on this computer. The page forgets it when you leave the page or sign out.",
   showToken: "Show token",
   signIn: "Show my seat",
   signOut: "Sign out",
   letter: "Print a letter of allotment",
   entryTitle: "Your entry in the register",
   seatTitle: "Your seat",
-  answerTitle: "Your answer",
   receiptsTitle: "Your receipts",
   receiptsIntro: "These are all the answers that the office has taken from you.",
   whyTitle: "Why not another programme?",
   explain: "Explain each programme",
 
+  helpHead: "Help - Seat allocation office",
+
   clerkHead: "The clerk's desk - Seat allocation office",
   clerkTitle: "The clerk's desk",
   clerkToken: "The clerk's token",
   clerkSignIn: "Sign in",
+  clerkNoEnd: "No end of this window is announced, so candidates do not know when it closes. The program announce of the server tells the pages.",
   cutTitle: "Close the window",
   raiseTitle: "Add seats",
   raiseIntro: "More seats count from the next round on. Protected seats stay as they are. Seats can be added, but never taken away.",
@@ -99,8 +104,11 @@ export const LABELS = {
 
 /** What is wrong with a field. */
 export const FAULTS = {
-  candidate: "A candidate number has 1 to 9 digits and does not begin with 0.",
+  candidate: "A candidate number has 1 to 9 digits and does not begin with 0. It is in the board's letter.",
+  application: "This looks like an application number. Sign in with the candidate number, which is in the board's letter too.",
   token: "A token has 8 to 32 letters and digits.",
+  signs: "A token has letters and digits only. Look at the sign that is neither.",
+  slip: "The office does not know this token with this number. Compare them sign by sign: 0 and o, 1 and l, capital and small letters.",
   code: "A programme code has 1 to 16 letters, digits and hyphens.",
   seats: "The new number is a whole number from 1 to 4,000.",
   round: "No round is published yet.",
@@ -110,10 +118,11 @@ export const FAULTS = {
 export const NO = "No, go back";
 export const SHOW_TOKEN = LABELS.showToken;
 export const HIDE_TOKEN = "Hide token";
+export const TYPED = (signs, groups) => `${count(signs, "sign")} typed${groups ? `: ${groups}` : ""}`;
 export const SWITCH = {
-  title: "Change the language?",
-  lines: ["The page in the other language does not know your token. You have to sign in there again."],
-  yes: "Change the language",
+  title: "Leave this page?",
+  lines: ["The other page does not know your token. You have to sign in again afterwards."],
+  yes: "Leave this page",
 };
 export const IDLE_WORDS = {
   title: "Are you still there?",
@@ -121,28 +130,49 @@ export const IDLE_WORDS = {
   stay: "Stay signed in",
 };
 
+/** Who is signed in, on a page that is not the candidate's own. */
+export const VISIT = {
+  signedIn: (cand) => `You are signed in as candidate ${cand}.`,
+  left: { idle: "The page signed you out, because nobody touched it for 15 minutes.", asked: "You are signed out. The page has forgotten your token." },
+};
+
+/** Whom to ask, where the board has published it. */
+export const HELP = {
+  ask: "If something is wrong, ask the board:",
+  lost: "Did you lose your token, or do you not know your number? Ask the board:",
+  nobody: "Did you lose your token, or do you not know your number? Ask the board that gave them to you.",
+  unknown: "Ask the board that holds this season.",
+};
+
 // ---- the season
 
 /** A programme or an institute with its name, where it has one that is published. */
 export const named = (name, code) => (name ? `${name} (${code})` : code);
 
+/** A programme as people call it: its name and the place where it is. */
+export const called = (name, institute) => (institute ? `${name}, ${institute}` : name);
+
+/** The holders of each trait. */
 export const TRAITS = {
   W: "women",
   D: "persons with disabilities",
   X: "ex-servicemen",
-  S: "sports",
+  S: "sportspersons",
   F: "dependants of freedom fighters",
-  L: "local area",
+  L: "local candidates",
 };
+
+/** Those who hold all of some traits. */
+const holders = (traits) => [...traits].map((it) => TRAITS[it]).join(" who are also ");
 
 /** What a candidate holds, as the person would say it. */
 export const HOLDS = {
-  W: "woman (W)",
-  D: "disability (D)",
-  X: "ex-serviceman (X)",
-  S: "sports (S)",
-  F: "dependant of a freedom fighter (F)",
-  L: "local area (L)",
+  W: "woman",
+  D: "disability",
+  X: "ex-serviceman",
+  S: "sports",
+  F: "dependant of a freedom fighter",
+  L: "local area",
 };
 export const HOLDS_NOTHING = "none";
 
@@ -155,20 +185,20 @@ export const CATEGORIES = {
 };
 
 const STEPS = {
-  OPEN: "open seats (OPEN)",
+  OPEN: "open seats",
   EWS: "EWS seats",
   OBC: "OBC seats",
   SC: "SC seats",
   ST: "ST seats",
-  D: "de-reserved (D) seats",
+  D: "de-reserved seats",
 };
 const stepName = (step) => STEPS[step] ?? `seats (${step})`;
 
 /** The name of a step at the head of a sentence or a field. */
 export const kindOfSeat = (step) => stepName(step).replace(/^[a-z]/, (letter) => letter.toUpperCase());
 
-/** What the letter D means, wherever a page shows it in the place of a step. */
-export const NOT_DISABILITY = "In the place of a kind of seat, D means de-reserved and not disability.";
+/** What the letter D means in the office's own words, where they have it in the place of a step. */
+export const NOT_DISABILITY = "A de-reserved seat is one that a category left empty. The office's own words call it D, which has nothing to do with disability there.";
 
 /** What stands for the mock round, which the office may publish before round 1. */
 export const MOCK = "mock";
@@ -188,6 +218,14 @@ export function phase({ now, rounds, published }) {
 
 const WHEN = { day: "numeric", month: "long", year: "numeric", hour: "numeric", minute: "2-digit", timeZone: "Asia/Kolkata" };
 
+/** A moment within a sentence: `5 pm on 2 December`. */
+export function moment(ms) {
+  const part = (options) => new Date(ms).toLocaleString("en-IN", { ...options, timeZone: WHEN.timeZone });
+  const [hour, minute] = ["hour", "minute"].map((it) => Number(new Date(ms).toLocaleString("en-GB", { [it]: "2-digit", hour12: false, timeZone: WHEN.timeZone })));
+  const clock = `${hour % 12 || 12}${minute ? `:${String(minute).padStart(2, "0")}` : ""} ${hour % 24 < 12 ? "am" : "pm"}`;
+  return `${clock} on ${part({ day: "numeric", month: "long" })}`;
+}
+
 /** How much is left, in its two largest units. */
 function left(ms) {
   const minutes = Math.max(1, Math.ceil(ms / 60_000));
@@ -202,6 +240,9 @@ export const CLOSES = (window, end, ms) =>
     ? `Window ${window} is announced to close on ${new Date(end).toLocaleString("en-IN", WHEN)}, Indian time. ${left(ms)} left.`
     : `The announced end of window ${window} has passed. The clerk may close it at any moment.`;
 
+/** The same below a heading that names the end. */
+export const LEFT = (window, end, ms) => (ms > 0 ? `${left(ms)} left, by the clock of India.` : CLOSES(window, end, ms));
+
 export const ASKING = "Asking the office …";
 export const WAITING = "The office does not answer yet. The page asks again by itself.";
 export const ARRIVING = (bytes) => `${figure(Math.ceil(bytes / 100_000) / 10)} MB have arrived …`;
@@ -210,27 +251,31 @@ export const OWN_WORDS = "The office's own words";
 
 // ---- cutoffs
 
-const letters = (traits) => listed([...traits]);
-const upTo = (place) => (place === Infinity ? "any place" : `places up to ${figure(place)}`);
+const placed = (place) => (place === Infinity ? "any place" : figure(place));
 
-/** What the lines of a step admit: `places up to 41, or up to 57 with W`. */
-function admitted(lines) {
-  const one = ({ traits, place }) => `${upTo(place)}${traits ? ` with ${letters(traits)}` : ""}`;
-  const [first, ...others] = lines.map(one);
-  return [first, ...others.map((it) => it.replace("places up to", "up to"))].join(", or ");
+/** Where a kind of seat ends, for everybody and for those who hold traits: `8,017 · women 9,846`. */
+const ends = (lines) => lines.map(({ traits, place }) => `${traits ? `${holders(traits)} ` : ""}${placed(place)}`).join(" · ");
+
+/** The same as a sentence about a kind of seat: `Open seats end at place 8,017 (women 9,846).` */
+function endOf(step, lines) {
+  const [first, ...others] = lines;
+  const more = ends(others).replaceAll(" · ", ", ");
+  if (first.traits) return `${kindOfSeat(step)} end at place ${lines.map((it) => `${placed(it.place)} for ${holders(it.traits)}`).join(", ")}, and admit nobody else.`;
+  return `${kindOfSeat(step)} ${first.place === Infinity ? "admit any place" : `end at place ${figure(first.place)}`}${more ? ` (${more})` : ""}.`;
 }
 
 export const CUTOFFS = {
-  columns: ["Programme", "Institute", "Kind of seat", "Admits"],
+  columns: ["Programme", "Institute", "The worst place that would still be admitted"],
   caption: (round, number) => `Cutoffs of ${roundName(round)}: ${count(number, "programme")}`,
-  admitted,
+  ends,
   more: (some, all) => `Show ${some} more of ${figure(all)}`,
   noneFound: "No programme is found for this.",
   noPaper: "The table of all cutoffs is not published here. Type the code of one programme, and the page asks the office.",
   nobody: "This programme admits nobody more.",
   caveats: (round) => [
     `These numbers are about ${roundName(round)} and one person more. Two newcomers within a cutoff may not both be admitted.`,
-    "A cutoff means this place or a better one. Holding more letters never makes it stricter.",
+    "They count the same other applicants. With one candidate more, others may move on and come back, so someone within a cutoff may still get no seat.",
+    "A cutoff means this place or a better one. Holding more traits never makes it stricter.",
     "Open (OPEN) and de-reserved (D) seats are for candidates of every category whose place is not relaxed. The seats of a category are for its members alone.",
     "A candidate who chose slide or freeze may be within the cutoff of a programme that they no longer sought.",
   ],
@@ -239,12 +284,13 @@ export const CUTOFFS = {
 };
 
 export const LIKE = {
-  columns: ["Programme", "Institute", "Kind of seat", "Admits", "Your place"],
-  caption: (round, number) => `In ${roundName(round)}, ${count(number, "programme")} would admit one person more like this`,
-  none: (round) => `In ${roundName(round)}, no programme would admit one person more like this.`,
+  columns: ["Programme", "Institute", "Kind of seat", "Ends at", "Your place"],
+  caption: (round, number) => `In ${roundName(round)}, ${count(number, "programme is", "programmes are")} within the reach of one person more like this`,
+  none: (round) => `In ${roundName(round)}, no programme is within the reach of one person more like this.`,
   noPlace: "Fill in at least one place.",
   noPaper: "The cutoffs of all programmes, or the programmes themselves, are not published here. So the page cannot compare them.",
   first: "The kind of seat is the first, in the office's order, within whose cutoff you are. It is the one whose seat it would be.",
+  ahead: (place, best) => (best === Infinity ? figure(place) : best === place ? `${figure(place)}, the last that is within` : `${figure(place)}, within by ${figure(best - place)}`),
 };
 
 // ---- lists and rounds
@@ -263,7 +309,8 @@ export const SEATS = {
   unfilled: (trait, left, all) =>
     `${all === 1 ? "The seat" : `${left} of ${count(all, "seat")}`} protected for ${TRAITS[trait]} ${left === 1 ? "is" : "are"} not filled, because the candidates considered cannot fill more protected seats in all. ${left === 1 ? "It counts as an ordinary seat" : "They count as ordinary seats"}.`,
   list: (step, seats) => `${kindOfSeat(step)}: ${count(seats, "seat")}`,
-  protectedFor: (trait) => `fills a seat protected for ${TRAITS[trait]} (${trait})`,
+  // a published picture does not show who has a disability
+  protectedFor: (trait) => (trait === "D" ? "fills a protected seat" : `fills a seat protected for ${TRAITS[trait]}`),
   byMerit: "fills another seat",
   rank: (rank) => `no. ${figure(rank)} on this list`,
   you: "this is you",
@@ -285,9 +332,9 @@ export const LIST_FAULTS = {
   crowded: () => "more candidates are admitted than the step has seats or candidates.",
   letters: (it) => `${it.letters} protected seats are named, but the line “honoured” says ${it.honoured}.`,
   over: (it) => `more seats are named as protected for ${TRAITS[it.trait]} than there are.`,
-  unfilled: (it) => `a seat protected for ${TRAITS[it.trait]} is filled by nobody, and you hold ${it.trait}.`,
+  unfilled: (it) => `a seat protected for ${TRAITS[it.trait]} is filled by nobody, and you are one of them.`,
   bymerit: (it) => `candidate ${it.id} has a worse place than yours and fills no protected seat.`,
-  sametrait: (it) => `candidate ${it.id} has a worse place than yours and fills a seat protected for ${TRAITS[it.trait]}, and you hold ${it.trait} too.`,
+  sametrait: (it) => `candidate ${it.id} has a worse place than yours and fills a protected seat that you could fill too.`,
 };
 export const SETTLED = {
   right: "the refusal is right, because ",
@@ -362,64 +409,95 @@ export const EXAMPLE = { sheet: "step sheet 1\nseats,2\nprotect,W,1\nprotect,D,1
 
 /** The candidate's own entry in the register. */
 export const ENTRY = {
-  check: "Check this now. An error is mended before round 1 is published, and not after it. Tell the board if anything is wrong.",
+  check: "Check each line.",
   later: "The office works with this entry for the whole season.",
-  fields: { category: "Category", traits: "You hold", place: (list) => `Place in merit list ${list}` },
+  open: "Show what the register has of you",
+  fields: { category: "Category", traits: "You hold", place: (list) => `Place in ${list}` },
+  list: (number) => `merit list ${number}`,
   place: (place, isCommon) => (isCommon ? `${figure(place)}, a common place: it counts for open seats too` : `${figure(place)}, a relaxed place: it counts for the seats of your category alone`),
-  noPlace: "none",
+  nowhere: "You have no place in any merit list.",
+};
+
+/** What a candidate's page says first, by the situation of the candidate. `by` is the announced end of the window, or null. */
+export const STATE = {
+  title: {
+    early: () => "Is your entry right?",
+    earlyEmpty: () => "You listed no programme, so no round can give you a seat.",
+    waiting: ({ round }) => `You have no seat after round ${round}.`,
+    waitingEmpty: () => "You listed no programme, so no round can give you a seat.",
+    offered: ({ seat, by, isLate, window }) => `You have been offered ${seat}. Answer ${isLate ? "now" : by ? `by ${by}` : `before window ${window} closes`}, or you lose it.`,
+    kept: ({ seat }) => `You have ${seat}.`,
+    admitted: ({ seat }) => `You are admitted to ${seat}.`,
+    without: () => "The rounds are over, and you have no seat.",
+    withdrawn: () => "You withdrew, and that is final.",
+    noshow: () => "You lost your seat, because you did not answer your first offer in time.",
+  },
+  lead: {
+    early: ({ by }) => [`The board can mend an error until round 1 is published${by ? `, which is announced for ${by}` : ""}. Afterwards the office cannot.`, "If all is right, you need not do anything."],
+    earlyEmpty: ({ by }) => [`Ask the board now. It can mend this until round 1 is published${by ? `, which is announced for ${by}` : ""}, and not afterwards.`],
+    waiting: ({ round, isLast, by }) => [
+      "You need not do anything.",
+      isLast ? `This was the last round, and the season ends when the window closes. ${SEAT.special}` : `You stay in the season, and round ${round + 1} comes when the window closes${by ? `, which is announced for ${by}` : ""}.`,
+    ],
+    waitingEmpty: () => [`The lists are fixed since round 1. ${SEAT.special}`],
+    offered: ({ isLast }) => [isLast ? "This is the last window: each answer but a withdrawal makes this seat your final admission." : "This is your first offer."],
+    kept: ({ choice, isLast, window, by }) => [
+      isLast ? "It becomes your final admission when this window closes." : `Your answer is ${choice}, and it holds until you change it.`,
+      `You need not do anything. ${isLast ? "You can only still withdraw" : "You can change your answer"} until ${by ?? `window ${window} closes`}.`,
+    ],
+    admitted: () => ["This admission is final.", "Next, print your letter, and follow the notices of the board and of the institute: they say when and where you report."],
+    without: () => [SEAT.special],
+    withdrawn: () => [SEAT.special],
+    noshow: () => [SEAT.special],
+  },
+  moved: (from, to, seat) => `You moved up in this round: from your choice ${from}, ${seat}, to your choice ${to}.`,
+  first: (to) => `It is your choice ${to}.`,
 };
 
 export const CHOICES = {
   freeze: {
     name: "Freeze",
-    does: ({ seat, last }) =>
-      last
-        ? [`Keep your seat in ${seat}. It becomes your final admission.`]
-        : [`Keep your seat in ${seat}, and seek no other.`, "When this window closes, you can no longer choose float or slide."],
+    line: ({ isSame }) => (isSame ? "Keep this seat." : "Keep this seat, and look for no other."),
+    does: ({ isSame, isLast }) => [isLast ? "Keep this seat. It becomes your final admission." : isSame ? "Keep this seat." : "Keep this seat, and seek no other.", ...(isLast || isSame ? [] : ["When this window closes, you can no longer choose float or slide."])],
     yes: "Yes, freeze",
   },
   float: {
     name: "Float",
-    does: ({ seat, last, higher }) =>
-      last
-        ? [`Keep your seat in ${seat}. It becomes your final admission: no round follows in which you could move up.`]
-        : [
-            `Keep your seat in ${seat}, and seek every programme higher on your list${these(higher)}.`,
-            ...noneHigher(higher, seat),
-            `You get ${seat} or a higher one, never a lower one. If you move up, you give up the seat in ${seat}.`,
-          ],
+    line: ({ isSame, higher }) => (isSame ? "Keep this seat." : `Keep it, and move up if one of ${count(higher.length, "programme")} higher on your list admits you.`),
+    does: ({ isSame, isLast, higher }) =>
+      isLast
+        ? ["Keep this seat. It becomes your final admission, because no round follows in which you could move up."]
+        : isSame
+          ? ["Keep this seat."]
+          : ["Keep this seat, and seek every programme higher on your list:", higher, "You get one of these or keep this seat, and never a lower one. If you move up, you give up this seat."],
     yes: "Yes, float",
   },
   slide: {
     name: "Slide",
-    does: ({ seat, last, same }) =>
-      last
-        ? [`Keep your seat in ${seat}. It becomes your final admission: no round follows in which you could move up.`]
-        : [
-            `Keep your seat in ${seat}, and seek only the programmes higher on your list at the same institute${these(same)}.`,
-            ...noneHigher(same, seat),
-            "When this window closes, you can no longer choose float.",
-          ],
+    line: ({ isSame, same }) =>
+      isSame ? "Keep this seat." : !same ? "Keep it, and move up within this institute alone." : same.length ? `Keep it, and move up within this institute alone: ${count(same.length, "programme")}.` : "Keep it. Your list has nothing higher at this institute.",
+    does: ({ isSame, isLast, same }) =>
+      isLast
+        ? ["Keep this seat. It becomes your final admission, because no round follows in which you could move up."]
+        : isSame
+          ? ["Keep this seat."]
+          : [
+              "Keep this seat, and seek only the programmes higher on your list at the same institute:",
+              ...(same?.length === 0 ? ["Your list has none, so you keep this seat."] : same ? [same] : []),
+              "When this window closes, you can no longer choose float.",
+            ],
     yes: "Yes, slide",
   },
   withdraw: {
     name: "Withdraw",
+    line: () => "",
     does: ({ seat }) => [
-      seat ? `Give up your seat in ${seat} and leave the season.` : "Leave the season. You will not be offered a seat in any of its rounds.",
+      seat ? `Give up your seat in ${seat}, and leave the season.` : "Leave the season. You will not be offered a seat in any of its rounds.",
       "A withdrawal is final: you cannot take it back, not even while this window is open. If the board holds a special round for vacant seats afterwards, you may hand in a list for it.",
     ],
     yes: "Yes, withdraw for good",
   },
 };
-
-/** The programmes that an answer seeks, where they are known. */
-function these(programmes) {
-  return programmes?.length ? `: ${listed(programmes)}` : "";
-}
-
-function noneHigher(programmes, seat) {
-  return programmes?.length === 0 ? [`Your list has none, so you stay in ${seat}.`] : [];
-}
 
 /** How a candidate is while the season goes on. */
 export const STANDINGS = {
@@ -433,40 +511,45 @@ export const STANDINGS = {
 };
 
 export const SEAT = {
-  signedIn: (cand) => `You are signed in as candidate ${cand}.`,
-  fields: { candidate: "Candidate", seat: "Seat", final: "Final admission", institute: "Institute", kind: "Kind of seat", round: "Round", standing: "Status" },
+  fields: { candidate: "Candidate", seat: "Seat", final: "Final admission", institute: "Institute", kind: "Kind of seat", choice: "On your list", place: (list) => `Your place in ${list}`, round: "Round", standing: "Status" },
   none: "none",
+  choice: (at) => `choice ${at}`,
   final: "This admission is final.",
-  noAdmission: "The season ended without an admission for you.",
+  noAdmission: "The rounds ended without an admission for you.",
   special: "If the board holds a special round for vacant seats, you may hand in a new list for it.",
   lastKept: "You keep this seat. It becomes your final admission when the clerk closes this window.",
-  left: { idle: "The page signed you out, because nobody touched it for 15 minutes.", asked: "You are signed out. The page has forgotten your token." },
   changed: "Your seat or your answer has changed since this page showed it. Look again.",
 };
 
 export const ANSWER = {
-  over: "The season is over. There is nothing left to answer.",
-  out: "You are out of this season. There is nothing left to answer.",
-  mustAnswer: (window) => `Answer before window ${window} closes. If you do not answer, you lose this seat and leave the season.`,
-  noEnd: "The clerk closes the window. No end is announced on this page: look for the time in the notices of the office.",
-  answered: "You have answered, and you need not do anything more. Your answer holds until you change it, in later windows too.",
-  waiting: "You have no seat, so you need not answer. You can only withdraw.",
+  question: "Choose one answer",
+  change: "You may change your answer",
+  withdrawOnly: "If you do not want a seat",
+  noEnd: "No end is announced on this page: look for the time in the notices of the board.",
   narrow: (window) =>
     `You can change your mind until window ${window} closes, except for a withdrawal. After that, slide rules out float, and freeze leaves only withdraw.`,
   first: (seat) => `${seat} is the first programme on your list, so no answer can bring you another one. Freeze, float and slide all keep it. One of them is enough.`,
-  keeps: (seat) => [`Keep your seat in ${seat}.`],
+  last: "No round follows. Freeze, float and slide all make this seat your final admission. One of them is enough.",
+  details: "What each answer means",
+  leave: "Give up this seat and leave",
+  leaveSeason: "Leave the season",
+  seat: (seat) => `Your seat: ${seat}.`,
+  more: (number) => `and ${number} more`,
   now: "Your answer now",
   closed: (choice, left) => `${CHOICES[choice].name} is not open to you: your answer when the last window closed was ${left}.`,
   full: "The office has 16 answers from you in this window. It takes only a withdrawal now.",
   used: (turns) => `The office has ${count(turns, "answer")} from you in this window. It takes up to 16, and a withdrawal after them.`,
   sure: (choice) => `${CHOICES[choice].name}?`,
-  sureType: { text: "withdraw", label: "To confirm, type the word: withdraw" },
+  sureTick: (seat) => (seat ? "I give up this seat for good." : "I leave the season for good."),
   sending: "Sending your answer …",
-  taken: "The office has taken your answer and keeps it. Keep this receipt: a court compares it with the papers of the office.",
+  taken: (choice) => `Your answer is ${CHOICES[choice]?.name ?? choice}. The office has taken it and keeps it.`,
+  keep: "Keep this receipt: a court compares it with the papers of the office.",
   earlier: (choice) => `This is the receipt of an earlier answer. Your answer now is ${CHOICES[choice]?.name ?? choice}.`,
   unknown: "The page does not know whether your answer arrived. Send it again: the office takes the same answer only once, and then repeats its receipt.",
   again: "Send the same answer again",
   other: "Perhaps you answered in another window or on another device. Look at your answer below, and answer again if you still want to.",
+  cameRound: (round, seat) => `Round ${round} came while you answered. ${seat ? `Your seat is now ${seat}.` : "You have no seat in it."}`,
+  cameEnd: (seat) => `The final admissions came while you answered. ${seat ? `You are admitted to ${seat}.` : "You have no seat."}`,
   save: "Save the receipt",
   print: "Print",
   file: (receipt, seat, origin, time) => `${receipt}\n\n${seat}\noffice ${origin}\nclock of this computer ${time}\n`,
@@ -482,13 +565,14 @@ export const RECEIPTS = {
 };
 
 export const WHY = {
-  tooEarly: "Reasons come with round 1, and no round is published yet.",
+  listTitle: "Your choice list",
   list: "Your choice list:",
   emptyList: "Your choice list is empty.",
   first: (seat) => `You have ${seat}, the first programme on your list. So there is nothing to explain.`,
   heading: (place, programme) => `${place}. ${programme}`,
   asking: (programme) => `Asking about ${programme} …`,
-  admitted: (round, step) => `Round ${round} admits you here, under ${stepName(step)}.`,
+  admitted: (round, step) => `Round ${round} gives you a seat here, under ${stepName(step)}.`,
+  gone: { withdrawn: "You withdrew since then, so the seat is gone.", noshow: "You did not answer it in time, so the seat is gone." },
   better: (programme) => `You have a seat in ${programme}, which is higher on your list.`,
   notsought: (round) => [
     `You did not seek this programme in round ${round}, so it was not considered for you.`,
@@ -500,15 +584,14 @@ export const WHY = {
   worseYes: (seats) =>
     `${seats === 1 ? "the one seat is" : `all ${figure(seats)} seats are`} taken. Someone with a worse place than yours is admitted. With you in the place of any such candidate, fewer protected seats would be filled.`,
   nowhere: "No kind of seat here was open to you.",
-  comparison: "You can check this refusal by one comparison. These are the published cutoffs, and your place:",
-  // what a step admits, and what that means for the place of the candidate
-  compare: ({ lines, best, place, isWithin }) =>
-    lines.length === 0
-      ? `they admit nobody more. Your place is ${figure(place)}.`
-      : `they admit ${admitted(lines)}; your place is ${figure(place)}. ${isWithin ? WITHIN : best === null ? NO_LINE : WORSE(best)}`,
+  // what a step admits, and how far that is from the place of the candidate
+  compare: ({ step, lines, best, place, isWithin }) =>
+    lines.length === 0 ? `${kindOfSeat(step)} admit nobody more.` : `${endOf(step, lines)} ${isWithin ? WITHIN : best === null ? NOT_YOU : BEHIND(best, place)}`,
+  counts: (place, list) => `Here your place in ${list} counts: ${figure(place)}.`,
   within: "By its cutoffs this programme would admit you. Something is wrong: show the cutoffs and the reason to the office.",
   whichPlace: "This page does not know which of your places counts at this programme. Compare yours with its published cutoffs:",
-  cutoffsAre: "A cutoff means this place or a better one, for one person more.",
+  line: ({ step, lines }) => endOf(step, lines),
+  cutoffsAre: "A cutoff means this place or a better one, for one person more. So you can check the refusal by this comparison.",
   checked: "What this page finds from the published list:",
   seats: (programme) => `Who has the seats of ${programme}`,
   next: (number) => `Explain the next ${number}`,
@@ -516,11 +599,14 @@ export const WHY = {
   noList: "This page cannot read the published list.",
   unread: "This page cannot read the reason. These are the office's own words.",
   noCutoffs: "This page cannot read the cutoffs of this programme.",
+  save: "Save all of this for a complaint",
+  saveHint: "One file with your entry, your list, your receipts, the reasons and the cutoffs. Your token is not in it.",
+  fileName: (cand, round) => `complaint-${cand}-round-${round}.txt`,
 };
 
-const WITHIN = "That is within the cutoff.";
-const NO_LINE = "That is only for candidates with these letters, and you do not hold them.";
-const WORSE = ({ traits, place }) => `${traits ? `With ${letters(traits)}, which you hold, the cutoff is ${figure(place)}. ` : ""}Your place is worse, so these seats do not admit you.`;
+const WITHIN = "Yours is within.";
+const NOT_YOU = "You are none of those.";
+const BEHIND = (best, place) => `Yours is ${figure(place)}, ${figure(place - best.place)} behind${best.traits ? ` the ${figure(best.place)} for ${holders(best.traits)}` : ""}.`;
 
 /** A letter of allotment for paper. */
 export const LETTER = {
@@ -528,16 +614,22 @@ export const LETTER = {
   fields: {
     season: "Season",
     board: "Board",
-    candidate: "Candidate",
+    candidate: "Candidate number",
+    name: "Name",
+    application: "Application number",
     programme: "Programme",
     institute: "Institute",
     kind: "Kind of seat",
-    place: (list) => `Place in merit list ${list}`,
+    category: "Category",
+    traits: "Holds",
+    place: (list) => `Place in ${list}`,
     round: "Round",
     standing: "Status",
     receipt: "Receipt of the last answer",
     end: "End of the window",
+    help: "Questions",
   },
+  byHand: "to be filled in by hand",
   noReceipt: "none yet",
   own: "The office's own words",
   foot: (origin, time) => `Printed from ${origin} on ${time}. The records of the office count. This sheet repeats them and proves nothing by itself.`,
@@ -557,6 +649,10 @@ export const CLERK = {
   ],
   counts: ({ seats, unanswered }, at) =>
     `Of ${count(seats, "seat")} offered, ${count(unanswered, "has", "have")} no answer yet. These candidates leave the season if the window closes now. Counted on ${new Date(at).toLocaleString("en-IN", WHEN)}.`,
+  clock: (ms) => `It is ${new Date(ms).toLocaleString("en-IN", WHEN)} by the server's clock, in Indian time.`,
+  who: (number) => `Who has not answered: ${count(number, "candidate")}`,
+  whoSave: "Save their numbers",
+  whoFile: (window) => `unanswered-window-${window}.txt`,
   early: (end) => `The announced end is ${new Date(end).toLocaleString("en-IN", WHEN)}, and it has not come yet. Candidates rely on it.`,
   over: "All windows are closed. The season is over.",
   close: (window) => `Close window ${window}`,
@@ -618,8 +714,8 @@ const REFUSALS = {
   18: ({ total }) => `A kind of seat has at most 4,000 seats at a programme, and all programmes together at most 10,00,000. Now they have ${figure(total)}. Nothing was changed.`,
 };
 
-/** What a refusal means, with its number and name. */
-export const refusal = (body) => `${REFUSALS[body.refused]?.(body) ?? "The office refuses this."} (refusal ${body.refused}, ${body.name})`;
+/** What a refusal means. Its number and name are in the office's own words. */
+export const refusal = (body) => REFUSALS[body.refused]?.(body) ?? "The office refuses this.";
 
 const TROUBLES = {
   lost: "No reply came. Your connection may be down.",

@@ -1,23 +1,34 @@
-/** The page of a candidate: the seat, the entry in the register, the answers that are open, their receipts, and why not another programme. */
-import { ask, askCutoffs, askList } from "../ask.js";
+/** The page of a candidate: what to do and by when, the answers that are open, the seat, receipts, why not another programme, and the entry in the register. */
+import { ask, askCutoffs, askList, serverTime } from "../ask.js";
 import { bySteps, compared, readCutoffs, readPlace } from "../cutoffs.js";
-import { $, askBeforeSwitch, button, canBeShown, clear, closeQuestions, confirmed, details, dropLinks, el, emptyToken, lazyDetails, onPress, onSend, ready, saveLink, say, show, table, ungrouped, valuesOf, verbatim } from "../dom.js";
+import { $, askBeforeLeaving, button, canBeShown, clear, closeQuestions, confirmed, countSigns, details, dropLinks, el, emptyToken, lazyDetails, onPress, onSend, ownWords, paragraphs, ready, saveLink, say, sayFault, show, table, ungrouped, valuesOf, verbatim } from "../dom.js";
 import { printLetter } from "../letter.js";
 import { listPicture } from "../picture.js";
-import { CHOICES as ALL_CHOICES, isCandidate, isToken, lineOf, MOST_TURNS, openNow, readList, readWhy, receiptsOf, settledByList } from "../rule.js";
-import { announcedEnd, instituteName, instituteOf, lookAgain, papersCome, programmeName, programmeOf, showEnd, showNotice } from "../season.js";
-import { leaveInTime, SignIn } from "../session.js";
-import { ANSWER, ASKING, CATEGORIES, CHOICES, CUTOFFS, ENTRY, HOLDS, HOLDS_NOTHING, kindOfSeat, LATER, LIST_FAULTS, NOT_DISABILITY, OLD, OWN_WORDS, phase, RECEIPTS, SEAT, SETTLED, STANDINGS, trouble, WAITING, WHY } from "../words.js";
+import { CHOICES as ALL_CHOICES, grouped, heldBefore, isCandidate, isToken, lineOf, MOST_TURNS, moved, openNow, readList, readWhy, receiptsOf, settledByList, situation } from "../rule.js";
+import { announcedEnd, instituteName, instituteOf, listName, lookAgain, papersCome, programmeOf, seatName, showContact, showEnd, showNotice } from "../season.js";
+import { carry, endVisit, leaveForNext, leaveInTime, SignIn, takeFromLast } from "../session.js";
+import { ANSWER, ASKING, CATEGORIES, CHOICES, ENTRY, HELP, HOLDS, HOLDS_NOTHING, kindOfSeat, LABELS, LATER, LEFT, LIST_FAULTS, moment, NOT_DISABILITY, OLD, OWN_WORDS, phase, RECEIPTS, SEAT, SETTLED, STANDINGS, STATE, trouble, VISIT, WAITING, WHY } from "../words.js";
 
 const AT_ONCE = 20;
-const DENIED = [1, 3];
+const [UNKNOWN, DENIED, LATE] = [1, 3, 6];
 const STAYS = ["freeze", "float", "slide"];
+// in the round before, somebody's seat is looked for in so many lists
+const MOST_LISTS = 30;
+const EARLY = ["entry", "why", "seat", "receipts", "answer"];
+const ORDER = {
+  early: EARLY,
+  earlyEmpty: EARLY,
+  waiting: ["seat", "why", "receipts", "answer", "entry"],
+  waitingEmpty: ["seat", "why", "receipts", "answer", "entry"],
+  rest: ["answer", "seat", "receipts", "why", "entry"],
+};
 let me = null;
+let carries = false;
 
-const regions = () => ["seat", "closes", "entry", "receipt", "answers", "receipts", "choices", "why-said", "whys", "letter"].map($);
+const regions = () => ["lead", "closes", "seat", "entry", "receipt", "answers", "receipts", "choices", "why-said", "whys", "complaint", "letter"].map($);
 const isIn = () => me !== null && !$("mine").hidden;
-const isOver = () => me.state.now > me.state.rounds;
-const isLast = () => me.state.now === me.state.rounds;
+const isOver = (who) => who.state.now > who.state.rounds;
+const isLast = (who) => who.state.now === who.state.rounds;
 const how = (who, more = {}) => ({ token: who.token, signal: who.signal, ...more });
 
 /** A reply that says nothing of what was asked: a trouble, or a refusal that ends the sign-in. */
@@ -30,14 +41,28 @@ class NoAnswer extends Error {
 
 // ---- signing in and out
 
+// what boards give to people who apply has more digits, or letters
+const faultOfNumber = (text) => (/^[A-Za-z]*[0-9]{6,}[A-Za-z0-9]*$/.test(text) && !/^[0-9]{1,9}$/.test(text) ? "application" : "candidate");
+const faultOfToken = (text) => (/^[A-Za-z0-9]*$/.test(text) ? "token" : "signs");
+
 async function signIn() {
   say($("said"), "plain");
-  const [number, token] = valuesOf([$("number"), isCandidate, "candidate"], [$("token"), isToken, "token", ungrouped]) ?? [];
+  const [number, token] = valuesOf([$("number"), isCandidate, faultOfNumber], [$("token"), isToken, faultOfToken, ungrouped]) ?? [];
   if (!number) return;
+  endVisit();
+  const who = new SignIn(token, { cand: Number(number) });
+  await comesAs(who, () => carry(who).then((can) => (carries = can)));
+}
+
+async function comesAs(who, then = () => {}) {
   forget();
-  const who = (me = new SignIn(token, { cand: Number(number) }));
+  me = who;
   say($("said"), "plain", ASKING);
-  if (await load(who, comeIn)) papersCome().then(() => who === me && showNames());
+  const isHere = () => {
+    comeIn();
+    then();
+  };
+  if (await load(who, isHere)) papersCome().then(() => who === me && showNames());
 }
 
 /** Opens what is a candidate's alone, as soon as there is a seat to show. */
@@ -46,7 +71,9 @@ function comeIn() {
   emptyToken($("token"), $("show-token"));
   $("door").hidden = true;
   $("mine").hidden = false;
-  $("seat-title").focus();
+  $("visit").hidden = false;
+  $("visit-text").textContent = VISIT.signedIn(me.cand);
+  $("title").focus();
 }
 
 /** Forgets who is signed in and clears all that was shown. */
@@ -57,28 +84,46 @@ function forget() {
   dropLinks();
   clear(...regions());
   for (const it of ["receipt", "why-said"]) say($(it), "plain");
+  $("title").textContent = LABELS.candidateTitle;
   $("letter-button").hidden = true;
   $("mine").hidden = true;
+  $("visit").hidden = true;
+  $("visit-text").textContent = "";
   $("door").hidden = false;
+  $("door").before($("notice"));
 }
 
 function leave(cause) {
   const was = me !== null;
+  if (cause === "left" && isIn()) leaveForNext(me);
+  if (cause !== "left") endVisit();
   forget();
   $("number").value = "";
   emptyToken($("token"), $("show-token"));
-  say($("said"), "plain", was && SEAT.left[cause]);
+  say($("said"), "plain", was && VISIT.left[cause]);
   if (cause === "asked") $("number").focus();
 }
 
-/** Says that the office refused or did not reply. A refused number or token ends the sign-in, and a missing reply does not. */
+/** Signs in by what the page before left in this tab. */
+async function comesBack() {
+  const found = await takeFromLast();
+  if (!found || me !== null) return;
+  carries = true;
+  await comesAs(found);
+}
+
+/** Says that the office refused or did not reply. A refused number or token ends the sign-in, and a missing reply does not. What was typed stays, so that a slip can be mended. */
 function stopped(got) {
-  const signedIn = !$("mine").hidden;
-  const denied = DENIED.includes(got.body?.refused);
+  const signedIn = isIn();
+  const denied = [UNKNOWN, DENIED].includes(got.body?.refused);
   if (denied || !signedIn) forget();
-  if (denied) emptyToken($("token"), $("show-token"));
-  say($("said"), "bad", trouble(got), got.trouble && LATER, !denied && signedIn && OLD);
-  $("said").focus();
+  if (denied) endVisit();
+  if (denied && signedIn) emptyToken($("token"), $("show-token"));
+  say($("said"), "bad", trouble(got), got.trouble && LATER, !denied && signedIn && OLD, ownWords(got), el("div", { id: "said-contact" }));
+  showContact($("said-contact"));
+  if (!denied) return $("said").focus();
+  if (got.body.refused === DENIED && $("token").value) sayFault($("token"), "slip");
+  $(got.body.refused === DENIED ? "token" : "number").focus();
 }
 
 /** Runs something that asks the office, and says it where the office does not answer. */
@@ -110,93 +155,143 @@ async function load(who, seatIsHere = () => {}) {
       Object.assign(who, { seat, state });
       if (seat.round === state.published) break;
     }
+    if (who.moveOf !== who.state.published) who.move = null;
+    const more = Promise.all([own(who, "answers"), who.entry ?? own(who, "register"), who.choices ?? own(who, "choices")]);
+    more.catch(() => null);
+    who.end = await announcedEnd(who.state);
     if (who !== me) return null;
     say($("said"), "plain");
-    showSeat();
+    showTitle(who);
+    showSeat(who);
     seatIsHere();
-    const [end, answers, entry, choices] = await Promise.all([
-      announcedEnd(who.state),
-      own(who, "answers"),
-      who.entry ?? own(who, "register"),
-      who.choices ?? own(who, "choices"),
-    ]);
+    const [answers, entry, choices] = await more;
     // the register spells no traits by a dash
     entry.traits = entry.traits.replace("-", "");
-    return Object.assign(who, { end, answers, entry, choices });
+    return Object.assign(who, { answers, entry, choices });
   });
   if (who !== me || !all) return false;
-  showEverything();
+  showEverything(who);
+  seekMove(who);
   return true;
 }
 
-function showEverything() {
-  showSeat();
-  showEnd($("closes"), me.state, me.end);
-  showEntry();
-  showAnswers(me);
-  checkReceipt(me);
-  showReceipts();
-  showChoices();
+/** Puts the parts of the page into the order of this situation: first what the candidate may have to do. */
+function arrange(who) {
+  const kind = situation(who);
+  const order = ORDER[kind] ?? ORDER.rest;
+  const mine = $("mine");
+  const parts = order.map((it) => $(`${it}-part`));
+  const now = [...mine.children].filter((it) => parts.includes(it));
+  if (now.some((it, at) => it !== parts[at])) mine.append(...parts);
+  if ($("notice").previousElementSibling !== parts[0]) parts[0].after($("notice"));
+}
+
+function showEverything(who) {
+  arrange(who);
+  showTitle(who);
+  showAnswers(who);
+  showSeat(who);
+  checkReceipt(who);
+  showReceipts(who);
+  showChoices(who);
+  showEntry(who);
 }
 
 /** Shows names in place of codes, once they are here. It changes nothing under the fingers of somebody who is answering. */
 function showNames() {
-  showSeat();
-  showChoices();
+  showTitle(me);
+  showSeat(me);
+  showChoices(me);
+  showEntry(me);
   if (!document.querySelector("dialog") && !$("answers").contains(document.activeElement)) showAnswers(me);
 }
 
-function showSeat() {
-  const { cand, seat, state } = me;
-  const field = isOver() ? SEAT.fields.final : SEAT.fields.seat;
-  const rows = [[SEAT.fields.candidate, cand]];
-  if (seat.programme) {
-    rows.push([field, el("strong", {}, programmeName(seat.programme))]);
-    if (instituteOf(seat.programme)) rows.push([SEAT.fields.institute, instituteName(instituteOf(seat.programme))]);
-    rows.push([SEAT.fields.kind, kindOfSeat(seat.step)], [SEAT.fields.round, seat.round]);
-  } else rows.push([field, SEAT.none]);
-  rows.push([SEAT.fields.standing, standing(seat)]);
-  $("letter-button").hidden = !seat.programme;
+/** Shows, as the heading of the page, what the candidate has to do and by when. */
+function showTitle(who) {
+  const { seat, state, end } = who;
+  const kind = situation(who);
+  const isLate = end !== null && end <= serverTime();
+  const given = {
+    seat: seat.programme && seatName(seat.programme),
+    by: end !== null && !isLate ? moment(end) : null,
+    isLate,
+    isLast: isLast(who),
+    window: state.now,
+    round: state.published,
+    choice: CHOICES[seat.standing]?.name,
+  };
+  $("title").textContent = STATE.title[kind](given);
+  const at = kind === "offered" && who.choices ? who.choices.programmes.indexOf(seat.programme) + 1 : 0;
   show(
-    $("seat"),
-    SEAT.signedIn(cand),
-    facts(rows),
-    seat.step === "D" && el("p", {}, el("strong", {}, NOT_DISABILITY)),
-    phase(state).join(" "),
-    details(OWN_WORDS, verbatim(`${lineOf(seat)}\n${lineOf(state)}`)),
+    $("lead"),
+    who.move && given.seat && el("p", { class: "say good" }, STATE.moved(who.move.from, who.move.to, seatName(who.move.held))),
+    [...STATE.lead[kind](given), at > 0 && STATE.first(at)].filter(Boolean).join(" "),
+    kind === "offered" && end === null && ANSWER.noEnd,
+    ["early", "earlyEmpty", "waitingEmpty"].includes(kind) && el("div", { id: "lead-contact" }),
   );
+  if ($("lead-contact")) showContact($("lead-contact"), HELP.ask, HELP.unknown);
+  showEnd($("closes"), state, end, LEFT);
+}
+
+/** Looks in the lists of the round before where the candidate was, and says it if that was lower on the list. */
+async function seekMove(who) {
+  const { seat, state, answers, choices } = who;
+  const had = state.published > 1 && seat.programme && answers.answers.some((it) => it.window < state.now);
+  if (!had || who.moveOf === state.published) return;
+  for (const code of heldBefore(choices.programmes, seat.programme).slice(0, MOST_LISTS)) {
+    const got = await askList(state.published - 1, code, how(who));
+    if (who !== me || got.body?.reply !== "list") return;
+    if (!new RegExp(`^${who.cand} [A-Z-]$`, "m").test(got.body.text)) continue;
+    const move = moved(choices.programmes, code, seat.programme);
+    who.moveOf = state.published;
+    if (move) who.move = { ...move, held: code };
+    if (move) showTitle(who);
+    return;
+  }
+}
+
+function showSeat(who) {
+  const { cand, seat, state, entry, choices } = who;
+  const rows = [[SEAT.fields.candidate, cand]];
+  const field = isOver(who) ? SEAT.fields.final : SEAT.fields.seat;
+  if (seat.programme) {
+    const at = choices ? choices.programmes.indexOf(seat.programme) + 1 : 0;
+    const list = programmeOf(seat.programme)?.list;
+    const place = entry && list && readPlace(entry.places[list - 1]);
+    rows.push([field, el("strong", {}, seatName(seat.programme))]);
+    if (instituteOf(seat.programme)) rows.push([SEAT.fields.institute, instituteName(instituteOf(seat.programme))]);
+    rows.push([SEAT.fields.kind, kindOfSeat(seat.step)]);
+    if (at) rows.push([SEAT.fields.choice, SEAT.choice(at)]);
+    if (place) rows.push([SEAT.fields.place(listName(list)), ENTRY.place(place.place, place.isCommon)]);
+    rows.push([SEAT.fields.round, seat.round]);
+  } else rows.push([field, SEAT.none]);
+  rows.push([SEAT.fields.standing, standing(who)]);
+  $("letter-button").hidden = !seat.programme;
+  show($("seat"), facts(rows), seat.step === "D" && el("p", {}, el("strong", {}, NOT_DISABILITY)), phase(state).join(" "), details(OWN_WORDS, verbatim(`${lineOf(seat)}\n${lineOf(state)}`)));
 }
 
 const facts = (rows) => el("dl", { class: "facts" }, rows.map(([name, fact]) => el("div", {}, el("dt", {}, name), el("dd", {}, fact))));
 
 /** How the candidate is. After the last cut the office still says `float`, although the admission is final. */
-function standing(seat) {
-  if (isOver() && seat.programme) return SEAT.final;
-  if (isOver()) return [seat.standing === "waiting" ? SEAT.noAdmission : STANDINGS[seat.standing], SEAT.special].join(" ");
-  return isLast() && STAYS.includes(seat.standing) ? SEAT.lastKept : STANDINGS[seat.standing];
+function standing(who) {
+  const { seat } = who;
+  if (isOver(who) && seat.programme) return SEAT.final;
+  if (isOver(who)) return [seat.standing === "waiting" ? SEAT.noAdmission : STANDINGS[seat.standing], SEAT.special].join(" ");
+  return isLast(who) && STAYS.includes(seat.standing) ? SEAT.lastKept : STANDINGS[seat.standing];
 }
 
-/** Shows the entry in the register: before the seat until round 1 is published, since an error can be mended until then, and after it later. */
-function showEntry() {
-  const { entry, state } = me;
+/** Shows the entry in the register: open until round 1 is published, since an error can be mended until then, and folded later. */
+function showEntry(who) {
+  const { entry, state } = who;
   const isEarly = state.published === 0;
-  const [mine, seatPart, entryPart] = [$("mine"), $("seat-part"), $("entry-part")];
-  if (isEarly !== (mine.firstElementChild === entryPart)) (isEarly ? seatPart.before(entryPart) : seatPart.after(entryPart));
-  const places = entry.places.map((it, at) => [ENTRY.fields.place(at + 1), placeWords(it)]);
-  show(
-    $("entry"),
-    isEarly ? el("p", { class: "say" }, ENTRY.check) : ENTRY.later,
-    facts([[ENTRY.fields.category, CATEGORIES[entry.category] ?? entry.category], [ENTRY.fields.traits, heldWords(entry.traits)], ...places]),
-    details(OWN_WORDS, verbatim(lineOf(entry))),
-  );
+  const places = entry.places.map((it, at) => [at + 1, readPlace(it)]).filter(([, it]) => it);
+  const rows = [[ENTRY.fields.category, CATEGORIES[entry.category] ?? entry.category], [ENTRY.fields.traits, heldWords(entry.traits)], ...places.map(([list, it]) => [ENTRY.fields.place(listName(list)), ENTRY.place(it.place, it.isCommon)])];
+  const parts = [facts(rows), places.length === 0 && ENTRY.nowhere, details(OWN_WORDS, verbatim(lineOf(entry)))].filter(Boolean).map((it) => (typeof it === "string" ? el("p", {}, it) : it));
+  if (isEarly) show($("entry"), el("p", { class: "say" }, ENTRY.check), ...parts);
+  else if (!$("entry").querySelector("details[open]")) show($("entry"), ENTRY.later, details(ENTRY.open, ...parts));
 }
 
 const heldWords = (traits) => [...traits].map((it) => HOLDS[it] ?? it).join(", ") || HOLDS_NOTHING;
-
-function placeWords(text) {
-  const place = readPlace(text);
-  return place ? ENTRY.place(place.place, place.isCommon) : ENTRY.noPlace;
-}
 
 /** Looks by itself whether what is shown still holds, and says it if it does not. */
 async function lookWhile() {
@@ -209,55 +304,59 @@ async function lookWhile() {
 
 // ---- the answer
 
-/** Shows the answers that the office takes now, each with what it means. */
-function showAnswers(who) {
-  const { seat, state, end } = who;
-  if (isOver()) return show($("answers"), ANSWER.over);
-  const { open, left, turns } = openNow(seat, state, who.answers.answers);
-  if (open.length === 0) return show($("answers"), ANSWER.out);
-  who.turns = turns;
-  const isFull = turns >= MOST_TURNS;
-  const closed = seat.programme && !isFull ? ALL_CHOICES.filter((it) => !open.includes(it)) : [];
-  show(
-    $("answers"),
-    seat.standing === "offered"
-      ? el("div", { class: "say bad" }, el("p", {}, ANSWER.mustAnswer(state.now)), end === null && el("p", {}, ANSWER.noEnd))
-      : seat.programme ? ANSWER.answered : ANSWER.waiting,
-    seat.programme && !isLast() && ANSWER.narrow(state.now),
-    hasFirst(who) && !isLast() && el("p", {}, el("strong", {}, ANSWER.first(programmeName(seat.programme)))),
-    el("div", { class: "choices" }, open.map((it) => choiceBox(who, it))),
-    closed.map((it) => el("p", { class: "hint" }, ANSWER.closed(it, CHOICES[left]?.name ?? left))),
-    seat.programme && el("p", { class: "hint" }, isFull ? ANSWER.full : ANSWER.used(turns)),
-  );
-}
-
 const hasFirst = ({ seat, choices }) => seat.programme !== null && choices.programmes[0] === seat.programme;
 
-/** What an answer means for this candidate, sentence by sentence. */
-function meaning(who, choice) {
+/** What decides the sentences about answers of this candidate. */
+function aboutAnswers(who) {
   const { seat, choices } = who;
-  const name = seat.programme && programmeName(seat.programme);
-  if (choice !== "withdraw" && hasFirst(who) && !isLast()) return ANSWER.keeps(name);
-  const higher = seat.programme ? choices.programmes.slice(0, choices.programmes.indexOf(seat.programme)) : null;
+  const higher = seat.programme ? choices.programmes.slice(0, choices.programmes.indexOf(seat.programme)) : [];
   const institute = instituteOf(seat.programme);
-  const same = higher && institute ? higher.filter((code) => instituteOf(code) === institute) : null;
-  return CHOICES[choice].does({ seat: name, last: isLast(), higher: higher?.map(programmeName), same: same?.map(programmeName) });
+  const same = institute ? higher.filter((code) => instituteOf(code) === institute) : null;
+  return { seat: seat.programme && seatName(seat.programme), isLast: isLast(who), isSame: isLast(who) || hasFirst(who), higher: higher.map(seatName), same: same?.map(seatName) };
 }
 
-function choiceBox(who, choice) {
-  const id = `does-${choice}`;
-  const isNow = choice === who.seat.standing;
-  return el(
-    "div",
-    { class: `choice ${isNow ? "now" : ""}` },
-    button(CHOICES[choice].name, () => answer(who, choice), { class: choice === "withdraw" ? "grave" : "main", "aria-describedby": id, "data-choice": choice }),
-    el("div", { id }, isNow && el("p", {}, el("strong", {}, ANSWER.now)), meaning(who, choice).map((it) => el("p", {}, it))),
+/** Shows the answers that the office takes now: one line each, what each means folded, and a withdrawal folded behind them. */
+function showAnswers(who) {
+  const { seat, state } = who;
+  const { open, left, turns } = openNow(seat, state, who.answers.answers);
+  const about = aboutAnswers(who);
+  const keeping = open.filter((it) => it !== "withdraw");
+  const isFull = turns >= MOST_TURNS;
+  const closed = seat.programme && open.length && !isFull ? ALL_CHOICES.filter((it) => !open.includes(it)) : [];
+  who.turns = turns;
+  $("answer-part").hidden = open.length === 0 && !$("receipt").hasChildNodes();
+  $("answer-title").textContent = seat.standing === "offered" && !isFull ? ANSWER.question : keeping.length ? ANSWER.change : ANSWER.withdrawOnly;
+  $("answer-title").hidden = open.length === 0;
+  show(
+    $("answers"),
+    keeping.length > 0 && el("ul", { class: "answers" }, keeping.map((it) => el("li", {}, answerButton(who, it, about)))),
+    keeping.length > 0 && about.isLast && ANSWER.last,
+    keeping.length > 0 && !about.isLast && hasFirst(who) && el("p", {}, el("strong", {}, ANSWER.first(about.seat))),
+    keeping.length > 0 && !about.isLast && details(ANSWER.details, ...keeping.flatMap((it) => [el("h3", {}, CHOICES[it].name), ...paragraphs(CHOICES[it].does(about), Infinity)]), el("p", {}, ANSWER.narrow(state.now))),
+    closed.map((it) => el("p", { class: "hint" }, ANSWER.closed(it, CHOICES[left]?.name ?? left))),
+    seat.programme && open.length > 0 && turns > 0 && el("p", { class: "hint" }, isFull ? ANSWER.full : ANSWER.used(turns)),
+    open.includes("withdraw") && leaving(who, about),
   );
+}
+
+function answerButton(who, choice, about) {
+  const [name, line, now] = [`name-${choice}`, `line-${choice}`, `now-${choice}`];
+  const isNow = choice === who.seat.standing;
+  const inside = [el("strong", { id: name }, CHOICES[choice].name), el("span", { id: line }, CHOICES[choice].line(about)), isNow && el("em", { id: now }, ANSWER.now)];
+  return button(inside, () => answer(who, choice), { id: `answer-${choice}`, class: isNow ? "answer now" : "answer", "aria-labelledby": name, "aria-describedby": isNow ? `${line} ${now}` : line, "data-choice": choice });
+}
+
+/** What a withdrawal is, and its button, behind a line that has to be opened. */
+function leaving(who, about) {
+  const press = button(CHOICES.withdraw.name, () => answer(who, "withdraw"), { id: "answer-withdraw", class: "grave", "aria-describedby": "line-withdraw", "data-choice": "withdraw" });
+  return details(about.seat ? ANSWER.leave : ANSWER.leaveSeason, el("div", { id: "line-withdraw" }, paragraphs(CHOICES.withdraw.does(about))), el("p", {}, press));
 }
 
 async function answer(who, choice) {
+  const about = aboutAnswers(who);
   const isGrave = choice === "withdraw";
-  const yes = await confirmed({ title: ANSWER.sure(choice), lines: meaning(who, choice), yes: CHOICES[choice].yes, grave: isGrave, type: isGrave ? ANSWER.sureType : null });
+  const lines = [!isGrave && ANSWER.seat(about.seat), ...CHOICES[choice].does(about)];
+  const yes = await confirmed({ title: ANSWER.sure(choice), lines, yes: CHOICES[choice].yes, grave: isGrave, tick: isGrave ? ANSWER.sureTick(about.seat) : null });
   if (yes && who === me) await send(who, { cand: who.cand, window: who.state.now, turn: who.turns + 1, choice });
 }
 
@@ -267,24 +366,33 @@ async function send(who, body) {
   for (const it of $("answers").querySelectorAll("button")) it.disabled = true;
   who.receipt = null;
   say(out, "plain", ANSWER.sending);
-  const got = await ask("answer", how(who, { body, waiting: () => who === me && say(out, "plain", ANSWER.sending, WAITING) }));
+  // the number in the address is for the log of the web server, which then says that this candidate pressed in time
+  const got = await ask(`answer?cand=${who.cand}`, how(who, { body, waiting: () => who === me && say(out, "plain", ANSWER.sending, WAITING) }));
   if (who !== me) return;
   const sameAgain = el("p", {}, button(ANSWER.again, () => send(who, body), { class: "main" }));
   if (got.body?.reply === "noted") {
     who.receipt = got.body;
     say(out, "good", ...receiptParts(who, got.body));
   } else if (got.passing) say(out, "bad", trouble(got), ANSWER.unknown, sameAgain);
-  else if ([5, 8].includes(got.body?.refused)) say(out, "bad", trouble(got), ANSWER.other);
-  else say(out, "bad", trouble(got));
+  else say(out, "bad", trouble(got), [5, 8].includes(got.body?.refused) && ANSWER.other, ownWords(got));
   out.focus();
-  if (!got.passing && (await load(who))) out.focus();
+  if (got.passing || !(await load(who))) return;
+  if (got.body?.refused === LATE) say(out, "bad", came(who), trouble(got), ownWords(got));
+  out.focus();
+}
+
+/** What came while somebody answered too late. */
+function came(who) {
+  const name = who.seat.programme && seatName(who.seat.programme);
+  return el("strong", {}, isOver(who) ? ANSWER.cameEnd(name) : ANSWER.cameRound(who.state.published, name));
 }
 
 function receiptParts(who, body) {
   const receipt = lineOf(body);
   const text = ANSWER.file(receipt, lineOf(who.seat), location.origin, new Date().toISOString());
   return [
-    ANSWER.taken,
+    el("strong", {}, ANSWER.taken(body.choice)),
+    ANSWER.keep,
     verbatim(receipt),
     el("p", { class: "row" }, saveLink(ANSWER.save, ANSWER.fileName(body), text), button(ANSWER.print, () => print())),
   ];
@@ -299,41 +407,41 @@ function checkReceipt(who) {
 
 // ---- receipts
 
-function showReceipts() {
+function showReceipts(who) {
   const out = $("receipts");
-  const all = receiptsOf(me.answers);
+  const all = receiptsOf(who.answers);
   if (!all.length) return show(out, RECEIPTS.none);
   const lines = all.map(lineOf);
-  const cells = (it, at) => [it.window, it.turn, CHOICES[it.choice].name, el("code", {}, lines[at])];
+  const cells = (it, at) => [it.window, it.turn, CHOICES[it.choice].name, el("code", { lang: "en" }, lines[at])];
   show(
     out,
     table(RECEIPTS.caption, RECEIPTS.columns, all.map(cells)),
-    el("p", { class: "row" }, saveLink(RECEIPTS.save, RECEIPTS.fileName(me.cand), `${lines.join("\n")}\n`), button(ANSWER.print, () => print())),
-    details(OWN_WORDS, verbatim(lineOf(me.answers))),
+    el("p", { class: "row" }, saveLink(RECEIPTS.save, RECEIPTS.fileName(who.cand), `${lines.join("\n")}\n`), button(ANSWER.print, () => print())),
+    details(OWN_WORDS, verbatim(lineOf(who.answers))),
   );
 }
 
 // ---- why not another programme
 
-function showChoices() {
-  const codes = me.choices?.programmes;
+function showChoices(who) {
+  const codes = who.choices?.programmes;
   if (!codes) return;
-  const isFirst = hasFirst(me);
-  $("why-form").hidden = isFirst || codes.length === 0;
-  if (isFirst) return show($("choices"), WHY.first(programmeName(me.seat.programme)));
+  const isEarly = who.state.published === 0;
+  const isFirst = hasFirst(who);
+  $("why-title").textContent = isEarly ? WHY.listTitle : LABELS.whyTitle;
+  $("why-form").hidden = isEarly || isFirst || codes.length === 0;
+  if (isFirst) return show($("choices"), WHY.first(seatName(who.seat.programme)));
   if (codes.length === 0) return show($("choices"), WHY.emptyList);
-  const list = el("ol", { class: "list" }, codes.map((it) => el("li", {}, programmeName(it))));
-  show($("choices"), WHY.list, list);
+  const list = el("ol", { class: "list" }, codes.map((it) => el("li", {}, seatName(it))));
+  show($("choices"), !isEarly && WHY.list, list);
 }
 
 async function explainAll() {
   const who = me;
-  clear($("whys"));
-  if (who.state.published === 0) return say($("why-said"), "plain", WHY.tooEarly);
+  clear($("whys"), $("complaint"));
+  who.papers = new Map();
   await papersCome();
-  if (who !== me) return;
-  $("whys").append(el("p", {}, el("strong", {}, NOT_DISABILITY)));
-  await explainSome(who, 0);
+  if (who === me) await explainSome(who, 0);
 }
 
 /** Explains the next few programmes of the choice list. It ends at the seat: all below it are worse. */
@@ -342,7 +450,7 @@ async function explainSome(who, from) {
   const until = Math.min(codes.length, from + AT_ONCE);
   const held = codes.indexOf(who.seat.programme);
   for (let at = from; at < until; at++) {
-    const name = programmeName(codes[at]);
+    const name = seatName(codes[at]);
     say($("why-said"), "plain", WHY.asking(name));
     const box = el("section", { class: "box" }, el("h3", {}, WHY.heading(at + 1, name)));
     const parts = await asking(who, () => explained(who, codes[at]));
@@ -351,10 +459,10 @@ async function explainSome(who, from) {
     $("whys").append(box);
     if (at === held) {
       if (at + 1 < codes.length) $("whys").append(el("p", {}, WHY.below(name)));
-      return say($("why-said"), "plain");
+      return allExplained(who);
     }
   }
-  say($("why-said"), "plain");
+  allExplained(who);
   if (until === codes.length) return;
   const more = button(WHY.next(Math.min(AT_ONCE, codes.length - until)), () => {
     more.remove();
@@ -363,33 +471,57 @@ async function explainSome(who, from) {
   $("whys").append(more);
 }
 
+function allExplained(who) {
+  say($("why-said"), "plain");
+  show($("complaint"), el("p", { class: "hint" }, WHY.saveHint), el("p", {}, button(WHY.save, () => saveAll(who))));
+}
+
+/** Puts all that a complaint needs into one file: what the page was told, and the lists of the programmes that refused. */
+async function saveAll(who) {
+  const round = who.state.published;
+  for (const [code, found] of who.papers) {
+    if (!found.cutoffs || found.list) continue;
+    const got = await askList(round, code, how(who));
+    if (who !== me) return;
+    found.list = got.body?.text;
+  }
+  const own = [who.seat, who.state, who.entry, who.choices, who.answers].map((it) => `${lineOf(it)}\n`);
+  const rest = [...who.papers.values()].flatMap((it) => [it.why, it.cutoffs, it.list].filter(Boolean));
+  show($("complaint"), el("p", { class: "hint" }, WHY.saveHint), el("p", {}, saveLink(WHY.save, WHY.fileName(who.cand, round), [...own, ...rest].join("\n"))));
+  $("complaint").querySelector("a").click();
+}
+
 /** The sentences and pictures for one programme. */
 async function explained(who, code) {
   const got = await ask(`why/${who.cand}/${code}`, how(who));
-  if (got.body?.reply === "refused" && !DENIED.includes(got.body.refused)) return [trouble(got)];
+  if (got.body?.reply === "refused" && ![UNKNOWN, DENIED].includes(got.body.refused)) return [trouble(got), ownWords(got)];
   if (got.body?.reply !== "why") throw new NoAnswer(got);
   const { text } = got.body;
+  who.papers.set(code, { why: text });
   let why;
   try {
     why = readWhy(text);
   } catch {
     return [WHY.unread, details(OWN_WORDS, verbatim(text))];
   }
-  if (why.kind === "admitted") return [WHY.admitted(who.state.published, why.detail), details(OWN_WORDS, verbatim(text))];
-  if (why.kind === "better") return [WHY.better(programmeName(why.detail)), details(OWN_WORDS, verbatim(text))];
+  if (why.kind === "admitted") return [WHY.admitted(who.state.published, why.detail), WHY.gone[who.seat.standing], details(OWN_WORDS, verbatim(text))];
+  if (why.kind === "better") return [WHY.better(seatName(why.detail)), details(OWN_WORDS, verbatim(text))];
   if (why.kind === "notsought") return [...WHY.notsought(who.state.published), details(OWN_WORDS, verbatim(text))];
   return refusedParts(who, code, why, text);
 }
 
-/** What a refusal says, and the comparison of the candidate's place with the cutoffs, which decides it. */
+/** What a refusal says: how far the candidate's place is from the cutoffs, which decide it, and then the office's reasons. */
 async function refusedParts(who, code, why, text) {
   const got = await askCutoffs(who.state.published, code, how(who));
+  who.papers.get(code).cutoffs = got.body?.text;
   const line = (it) => (it.seats === 0 ? WHY.noSeats : it.worse ? WHY.worseYes(it.seats) : WHY.worseNo(it.seats));
   const reasons = why.steps.map((it) => el("li", {}, el("strong", {}, `${kindOfSeat(it.name)}: `), line(it)));
+  const hasD = why.steps.some((it) => it.name === "D" && it.seats > 0);
   return [
-    ...(reasons.length ? [WHY.refused, el("ul", {}, reasons)] : [WHY.nowhere]),
     ...comparison(who, code, got, why.steps.filter((it) => it.seats > 0).map((it) => it.name)),
-    lazyDetails(WHY.seats(programmeName(code)), () => seatsOf(who, code, why)),
+    ...(reasons.length ? [WHY.refused, el("ul", {}, reasons)] : [WHY.nowhere]),
+    hasD && el("p", {}, el("strong", {}, NOT_DISABILITY)),
+    lazyDetails(WHY.seats(seatName(code)), () => seatsOf(who, code, why)),
     details(OWN_WORDS, verbatim(text), got.body?.text ? verbatim(got.body.text) : null),
   ];
 }
@@ -400,14 +532,15 @@ function comparison(who, code, got, withSeats) {
   if (got.body?.reply !== "cutoffs") return [trouble(got)];
   const places = who.entry.places.map(readPlace);
   const held = places.filter(Boolean);
-  const place = programmeOf(code) ? places[programmeOf(code).list - 1] : held.length === 1 ? held[0] : null;
+  const list = programmeOf(code)?.list ?? (held.length === 1 ? places.findIndex(Boolean) + 1 : null);
+  const place = list && places[list - 1];
   try {
     const { lines } = readCutoffs(got.body.text);
-    if (!place) return [WHY.whichPlace, el("ul", {}, bySteps(lines).map((it) => el("li", {}, el("strong", {}, `${kindOfSeat(it.step)}: `), CUTOFFS.admitted(it.lines))))];
+    if (!place) return [WHY.whichPlace, el("ul", {}, bySteps(lines).map((it) => el("li", {}, WHY.line(it))))];
     const steps = compared(lines, who.entry, place);
     const shown = steps.filter((it) => it.lines.length || withSeats.includes(it.step));
-    const rows = shown.map((it) => el("li", {}, el("strong", {}, `${kindOfSeat(it.step)}: `), WHY.compare(it)));
-    return [WHY.comparison, el("ul", {}, rows), el("p", { class: "hint" }, WHY.cutoffsAre), steps.some((it) => it.isWithin) && el("p", { class: "say bad" }, WHY.within)];
+    const rows = shown.map((it) => el("li", {}, WHY.compare(it)));
+    return [WHY.counts(place.place, listName(list)), el("ul", { class: "far" }, rows), el("p", { class: "hint" }, WHY.cutoffsAre), steps.some((it) => it.isWithin) && el("p", { class: "say bad" }, WHY.within)];
   } catch {
     return [WHY.noCutoffs];
   }
@@ -416,7 +549,7 @@ function comparison(who, code, got, withSeats) {
 /** The seats of a programme, and what its list alone settles of a refusal. */
 async function seatsOf(who, code, why) {
   const got = await askList(who.state.published, code, how(who));
-  if (got.body?.reply !== "list") return [trouble(got)];
+  if (got.body?.reply !== "list") return [trouble(got), ownWords(got)];
   const programme = programmeOf(code);
   try {
     const list = readList(got.body.text);
@@ -437,7 +570,7 @@ async function letter() {
   const who = me;
   if (!(await load(who))) return;
   await papersCome();
-  if (who === me) printLetter($("letter"), who, standing(who.seat), isOver());
+  if (who === me) await printLetter($("letter"), who, standing(who), isOver(who));
 }
 
 onSend($("sign-in"), signIn);
@@ -446,8 +579,13 @@ onPress($("refresh"), () => load(me));
 onPress($("letter-button"), letter);
 onPress($("sign-out"), () => leave("asked"));
 canBeShown($("token"), $("show-token"));
-askBeforeSwitch(isIn);
+countSigns($("token"), $("token-count"), grouped);
+askBeforeLeaving(() => isIn() && !carries);
 leaveInTime(leave, isIn);
+addEventListener("pageshow", (event) => event.persisted && comesBack());
 lookAgain(lookWhile);
 ready();
+comesBack();
 showNotice($("notice"));
+showContact($("lost"), HELP.lost, HELP.nobody);
+showContact($("contact"));

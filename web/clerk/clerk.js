@@ -1,8 +1,8 @@
 /** The page of the clerk: the state, closing a window, adding seats, and a candidate's seat. */
 import { ask, askCounts, askList, serverTime } from "../ask.js";
-import { $, askBeforeSwitch, busy, button, canBeShown, clear, closeQuestions, confirmed, details, dropLinks, el, emptyToken, onPress, onSend, ready, saveLink, say, show, ungrouped, valueOf, valuesOf, verbatim } from "../dom.js";
-import { isCandidate, isCode, isToken, lineOf, readList, STEPS as ALL_STEPS } from "../rule.js";
-import { announcedEnd, papersCome, programmeName, showEnd, showState } from "../season.js";
+import { $, askBeforeLeaving, busy, button, canBeShown, clear, closeQuestions, confirmed, countSigns, details, dropLinks, el, emptyToken, onPress, onSend, ownWords, ready, saveLink, say, sayFault, show, ungrouped, valueOf, valuesOf, verbatim } from "../dom.js";
+import { grouped, isCandidate, isCode, isToken, lineOf, readList, STEPS as ALL_STEPS } from "../rule.js";
+import { announcedEnd, papersCome, programmeName, showContact, showEnd, showState } from "../season.js";
 import { leaveInTime, SignIn } from "../session.js";
 import { ANSWER, ASKING, CATEGORIES, CLERK, kindOfSeat, LATER, NOT_DISABILITY, OWN_WORDS, trouble, WAITING } from "../words.js";
 
@@ -59,13 +59,13 @@ function leave(cause) {
   if (cause === "asked") $("token").focus();
 }
 
-/** Says that the sign-in failed. A token that the office refuses is forgotten at once. */
+/** Says that the sign-in failed. What was typed stays in its field, so that a slip can be mended. */
 function stopped(got) {
   const denied = got.body?.refused === DENIED;
   forget();
-  if (denied) emptyToken($("token"), $("show-token"));
-  say($("said"), "bad", denied ? CLERK.denied : trouble(got), got.passing && LATER);
-  $("said").focus();
+  say($("said"), "bad", denied ? CLERK.denied : trouble(got), got.passing && LATER, ownWords(got));
+  if (denied) sayFault($("token"), "slip");
+  $(denied ? "token" : "said").focus();
 }
 
 // ---- the state
@@ -73,7 +73,10 @@ function stopped(got) {
 async function look() {
   season = (await showState($("state"))) ?? season;
   if (!season) return;
-  showEnd($("closes"), season, await announcedEnd(season));
+  const end = await announcedEnd(season);
+  showEnd($("closes"), season, end);
+  $("hour").textContent = CLERK.clock(serverTime());
+  $("no-end").hidden = end !== null || season.now > season.rounds;
   const over = season.now > season.rounds;
   const last = season.now >= season.rounds;
   show($("cut"), ...(over ? [CLERK.over] : [...CLERK.closes(season), el("p", {}, button(CLERK.close(season.now), cut, { class: "grave", id: "do-cut" }))]));
@@ -88,7 +91,14 @@ async function showCounts(who) {
   const counts = await askCounts({ signal: who.signal });
   if (who !== me) return;
   const isNow = counts?.window === season.now && [counts.seats, counts.unanswered].every(Number.isSafeInteger);
-  show($("counts"), isNow && el("p", { class: "say" }, CLERK.counts(counts, counts.at)));
+  show($("counts"), isNow && el("p", { class: "say" }, CLERK.counts(counts, counts.at)), isNow && Array.isArray(counts.who) && counts.who.length > 0 && silent(counts));
+}
+
+/** Who has not answered, as a list that can be saved. */
+function silent({ window, who }) {
+  const numbers = who.filter(Number.isSafeInteger);
+  const text = `${numbers.join("\n")}\n`;
+  return details(CLERK.who(numbers.length), verbatim(text), el("p", {}, saveLink(CLERK.whoSave, CLERK.whoFile(window), text)));
 }
 
 // ---- closing the window
@@ -113,7 +123,7 @@ async function sendCut(who, body) {
     keep(who, got.body);
     say(out, "good", CLERK[got.body.reply](got.body), verbatim(lineOf(got.body)));
   } else if (got.passing) say(out, "bad", trouble(got), CLERK.unknownCut, el("p", {}, button(CLERK.again, () => sendCut(who, body), { class: "main" })));
-  else say(out, "bad", trouble(got), [LATE, AHEAD].includes(got.body?.refused) && CLERK.otherClerk);
+  else say(out, "bad", trouble(got), [LATE, AHEAD].includes(got.body?.refused) && CLERK.otherClerk, ownWords(got));
   out.focus();
   if (!got.passing) await look();
 }
@@ -153,7 +163,7 @@ async function sendRaise(who, body) {
     keep(who, got.body);
     say(out, "good", CLERK.raised({ ...got.body, programme: programmeName(got.body.programme) }), verbatim(lineOf(got.body)));
   } else if (got.passing) say(out, "bad", trouble(got), CLERK.unknownRaise, el("p", {}, button(CLERK.again, () => sendRaise(who, body), { class: "main" })));
-  else say(out, "bad", trouble(got));
+  else say(out, "bad", trouble(got), ownWords(got));
   out.focus();
   if (!got.passing) await look();
 }
@@ -169,7 +179,7 @@ async function showSeat() {
   say(out, "plain", ASKING);
   const got = await ask(`seat/${candidate}`, how(who));
   if (who !== me) return;
-  if (got.body?.reply !== "seat") return say(out, "bad", trouble(got));
+  if (got.body?.reply !== "seat") return say(out, "bad", trouble(got), ownWords(got));
   const { body } = got;
   say(out, "plain", CLERK.seat(body, programmeName(body.programme)), body.step === "D" && el("p", {}, el("strong", {}, NOT_DISABILITY)), CLERK.standing[body.standing], details(OWN_WORDS, verbatim(lineOf(body))));
 }
@@ -194,8 +204,10 @@ onSend($("seat"), showSeat);
 onPress($("refresh"), look);
 onPress($("sign-out"), () => leave("asked"));
 canBeShown($("token"), $("show-token"));
-askBeforeSwitch(() => !$("desk").hidden);
+countSigns($("token"), $("token-count"), grouped);
+askBeforeLeaving(() => !$("desk").hidden);
 leaveInTime(leave, () => !$("desk").hidden);
 ready();
 papersCome();
+showContact($("contact"));
 busy(look);

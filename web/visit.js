@@ -1,0 +1,33 @@
+/** The line about who is signed in, on pages that ask nothing in a candidate's name: it keeps the sign-in of a visit until the candidate comes back to their own page, or signs out. */
+import { $, onPress } from "./dom.js";
+import { endVisit, leaveForNext, leaveInTime, takeFromLast } from "./session.js";
+import { VISIT } from "./words.js";
+
+let visitor = null;
+
+async function comesBack() {
+  const found = await takeFromLast();
+  if (!found) return;
+  visitor = found;
+  $("visit").hidden = $("sign-out").hidden = false;
+  $("visit-text").textContent = VISIT.signedIn(found.cand);
+}
+
+function leave(cause) {
+  if (cause === "left") leaveForNext(visitor);
+  else endVisit();
+  const said = (visitor && VISIT.left[cause]) || "";
+  visitor?.forget();
+  visitor = null;
+  $("visit").hidden = !said;
+  $("visit-text").textContent = said;
+  $("sign-out").hidden = true;
+}
+
+/** Takes the visit of this tab from the page before, and keeps it for the next one. */
+export function startVisit() {
+  onPress($("sign-out"), () => leave("asked"));
+  leaveInTime(leave, () => visitor !== null);
+  addEventListener("pageshow", (event) => event.persisted && comesBack());
+  comesBack();
+}
