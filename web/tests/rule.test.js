@@ -1,0 +1,99 @@
+/** Cases for rule.js and cutoffs.js by themselves: node --test web/tests */
+import assert from "node:assert/strict";
+import { test } from "node:test";
+import { compared, firstWithin, readCutoffs, readCutoffTable, readPlace } from "../cutoffs.js";
+import { Filling, grouped, heldBefore, isToken, lineOf, moved, openNow, readList, readSheet, readWhy, settledByList, situation, twoQuestions, Unreadable } from "../rule.js";
+
+const state = (now, rounds = 3) => ({ reply: "state", now, rounds, published: Math.min(now, rounds) });
+const seat = (standing, programme = "A") => ({ reply: "seat", cand: 2, round: 1, standing, programme, step: programme && "OPEN" });
+const choices = (...programmes) => ({ reply: "choices", cand: 2, programmes });
+
+test("the situation of a candidate", () => {
+  const rows = [
+    [seat("waiting", null), state(0), choices("A"), "early"],
+    [seat("waiting", null), state(0), choices(), "earlyEmpty"],
+    [seat("withdrawn", null), state(0), choices("A"), "withdrawn"],
+    [seat("waiting", null), state(1), choices("A"), "waiting"],
+    [seat("waiting", null), state(1), choices(), "waitingEmpty"],
+    [seat("offered"), state(1), choices("A"), "offered"],
+    [seat("offered"), state(3), null, "offered"],
+    [seat("float"), state(2), choices("A"), "kept"],
+    [seat("noshow", null), state(2), choices("A"), "noshow"],
+    [seat("freeze"), state(4), choices("A"), "admitted"],
+    [seat("waiting", null), state(4), choices("A"), "without"],
+    [seat("noshow", null), state(4), choices("A"), "noshow"],
+  ];
+  for (const [its, at, list, wanted] of rows) assert.equal(situation({ seat: its, state: at, choices: list }), wanted);
+});
+
+test("the answers that are open", () => {
+  const noted = (window, turn, choice) => ({ window, turn, choice });
+  const open = (its, now, answers) => openNow(its, state(now), answers).open.join(" ");
+  assert.equal(open(seat("offered"), 1, []), "freeze float slide withdraw");
+  assert.equal(open(seat("freeze"), 1, [noted(1, 1, "freeze")]), "freeze float slide withdraw");
+  assert.equal(open(seat("slide"), 2, [noted(1, 1, "slide")]), "freeze slide withdraw");
+  assert.equal(open(seat("freeze"), 2, [noted(1, 1, "freeze")]), "freeze withdraw");
+  assert.equal(open(seat("waiting", null), 1, []), "withdraw");
+  assert.equal(open(seat("withdrawn", null), 1, [noted(1, 1, "withdraw")]), "");
+  assert.equal(open(seat("float"), 4, []), "");
+  assert.equal(open(seat("float"), 1, Array.from({ length: 16 }, (_, at) => noted(1, at + 1, "float"))), "withdraw");
+});
+
+test("how far somebody moved up", () => {
+  const list = ["A", "B", "C", "D"];
+  assert.deepEqual(heldBefore(list, "B"), ["B", "C", "D"]);
+  assert.deepEqual(moved(list, "D", "B"), { from: 4, to: 2 });
+  assert.equal(moved(list, "B", "B"), null);
+  assert.equal(moved(list, "Z", "B"), null);
+  assert.deepEqual(heldBefore(list, "Z"), []);
+});
+
+test("a place and the cutoffs of a programme", () => {
+  const { round, code, lines } = readCutoffs("cutoffs 1 CSE\nOPEN - 8017\nOPEN W 9846\nOPEN D any\nSC - 40000\nend cutoffs\n");
+  assert.deepEqual([round, code, lines.length], [1, "CSE", 4]);
+  const at = (category, traits, place) => compared(lines, { category, traits }, readPlace(place)).map((it) => [it.step, it.best?.place ?? null, it.isWithin]);
+  assert.deepEqual(at("GEN", "", "8017"), [["OPEN", 8017, true], ["D", null, false]]);
+  assert.deepEqual(at("GEN", "W", "9000"), [["OPEN", 9846, true], ["D", null, false]]);
+  assert.deepEqual(at("SC", "", "37368"), [["OPEN", 8017, false], ["SC", 40000, true], ["D", null, false]]);
+  assert.deepEqual(at("SC", "D", "37368R"), [["SC", 40000, true]]);
+  assert.equal(firstWithin(compared(lines, { category: "SC", traits: "D" }, readPlace("37368"))).best.place, Infinity);
+  assert.equal(readPlace("0"), null);
+  assert.deepEqual(readPlace("40R"), { place: 40, isCommon: false });
+  assert.deepEqual(readCutoffTable("programme,institute,step,traits,place\nP,I1,OPEN,-,3\nP,I1,OPEN,W,any\n"), [
+    { code: "P", institute: "I1", lines: [{ step: "OPEN", traits: "", place: 3 }, { step: "OPEN", traits: "W", place: Infinity }] },
+  ]);
+  assert.throws(() => readCutoffTable("programme,step\n"), Unreadable);
+});
+
+test("the texts of the office", () => {
+  const list = readList("list 1 P\nstep OPEN seats 3 candidates 4 admitted 2\nhonoured 1\n1 -\n2 W\nend list\n");
+  assert.deepEqual(list.steps[0].rows, [{ id: 1, slot: "-" }, { id: 2, slot: "W" }]);
+  assert.deepEqual(readWhy("why 4 P refused\nOPEN seats 1 worse yes\nend why\n").steps, [{ name: "OPEN", seats: 1, worse: true }]);
+  assert.equal(readWhy("why 4 P better Q\n").detail, "Q");
+  assert.equal(lineOf({ reply: "noted", cand: 2, window: 1, turn: 1, choice: "float" }), "noted 2 window 1 turn 1 float");
+  assert.equal(lineOf({ reply: "refused", refused: 6, name: "Late", now: 2 }), "refused 6 Late now 2");
+  assert.equal(lineOf({ reply: "refused", refused: 9, name: "Gone", how: "noshow" }), "refused 9 Gone noshow");
+});
+
+test("the two questions of a refusal", () => {
+  const sheet = readSheet("step sheet 1\nseats,2\nprotect,W,1\nprotect,D,1\ncand,1,-\ncand,2,WD\ncand,3,W\ncand,4,D\n");
+  assert.deepEqual(sheet.people.filter((it) => twoQuestions(sheet, it.id).admitted).map((it) => it.id), [2, 3]);
+  assert.equal(twoQuestions(sheet, 9), null);
+  assert.throws(() => readSheet("step sheet 2\n"), (fault) => fault instanceof Unreadable && fault.line === 1 && fault.kind === "BadFirstLine");
+  const filling = new Filling({ W: 1, D: 1 });
+  assert.deepEqual([{ id: 1, traits: "WD" }, { id: 2, traits: "W" }, { id: 3, traits: "W" }].map((it) => filling.add(it)), [true, true, false]);
+  assert.equal(filling.count, 2);
+});
+
+test("what a list settles by itself", () => {
+  const step = (seats, candidates, honoured, ...rows) => ({ seats, candidates, honoured, rows: rows.map(([id, slot]) => ({ id, slot })) });
+  assert.equal(settledByList(step(1, 2, 0, [1, "-"]), {}, "", false).verdict, "right");
+  assert.equal(settledByList(step(1, 2, 0, [1, "-"]), {}, "", true).verdict, "wrong");
+  assert.equal(settledByList(step(2, 2, 0, [1, "-"]), {}, "", false).by.key, "empty");
+  assert.equal(settledByList(step(1, 2, 1, [1, "W"]), { W: 1 }, "", true).verdict, "open");
+});
+
+test("tokens as people type them", () => {
+  assert.equal(grouped("abcdefgh12"), "abcd efgh 12");
+  assert.deepEqual(["abcdefgh", "a".repeat(32), "short", "a b c d e f g h", "abcdefg-"].map(isToken), [true, true, false, false, false]);
+});
