@@ -99,7 +99,7 @@ export const LABELS = {
   raise: "Add the seats",
   deskSeatTitle: "A candidate's seat",
   showSeat: "Show the seat",
-  deskReceiptsTitle: "What the office took from you",
+  deskReceiptsTitle: "Receipts of what you sent",
 };
 
 /** What is wrong with a field. */
@@ -274,7 +274,7 @@ export const CUTOFFS = {
   nobody: "This programme admits nobody more.",
   caveats: (round) => [
     `These numbers are about ${roundName(round)} and one person more. Two newcomers within a cutoff may not both be admitted.`,
-    "They count the same other applicants. With one candidate more, others may move on and come back, so someone within a cutoff may still get no seat.",
+    "They count the same other candidates. With one candidate more, others may move on and come back, so someone within a cutoff may still get no seat.",
     "A cutoff means this place or a better one. Holding more traits never makes it stricter.",
     "Open (OPEN) and de-reserved (D) seats are for candidates of every category whose place is not relaxed. The seats of a category are for its members alone.",
     "A candidate who chose slide or freeze may be within the cutoff of a programme that they no longer sought.",

@@ -1,0 +1,98 @@
+/** The words of both languages, side by side: the same names, the terms of the glossary, and no word in place of one. node --test web/tests */
+import assert from "node:assert/strict";
+import { readdirSync, readFileSync } from "node:fs";
+import { test } from "node:test";
+import * as en from "../words.js";
+import * as hi from "../words.hi.js";
+import { NEVER, TERMS } from "./terms.js";
+
+/** Returns the sentences within the text of a function: its strings and templates, without the code between them. */
+function literals(code) {
+  const found = [];
+  let at = 0;
+  const quoted = (end) => {
+    let text = "";
+    for (at++; at < code.length && code[at] !== end; at++) {
+      if (code[at] === "\\") at++;
+      if (end === "`" && code.startsWith("${", at)) {
+        at += 2;
+        coded("}");
+        text += "…";
+      } else text += code[at];
+    }
+    at++;
+    found.push(text);
+  };
+  const coded = (end) => {
+    for (let depth = 0; at < code.length; ) {
+      if (code[at] === '"' || code[at] === "`") quoted(code[at]);
+      else if (code[at] === end && depth === 0) return;
+      else depth += { "{": 1, "}": -1 }[code[at++]] ?? 0;
+    }
+  };
+  coded(null);
+  return found;
+}
+
+/** Returns the text of each word by its name, such as `ANSWER.now`. */
+function texts(it, at = "") {
+  if (typeof it === "string") return [[at, it]];
+  if (typeof it === "function") return [[at, literals(it.toString()).join(" ")]];
+  return it !== null && typeof it === "object" ? Object.keys(it).flatMap((key) => texts(it[key], at ? `${at}.${key}` : key)) : [];
+}
+
+// names of files, what a person types, and codes are not sentences
+const OUTSIDE = /^(?:EXAMPLE|MOCK|SHEET_FAULTS)|fileName|whoFile|sureType|Head$|CLERK\.raise|noScriptTexts/;
+const [english, hindi] = [en, hi].map((it) => new Map(texts(it).filter(([name]) => !OUTSIDE.test(name))));
+
+test("both languages have the same names", () => assert.deepEqual([...english.keys()].sort(), [...hindi.keys()].sort()));
+
+test("a term of the glossary is in the Hindi sentence if it is in the English one", () => {
+  const wrong = [...english].flatMap(([name, text]) => TERMS.filter((it) => it.en.test(text) && !it.hi.test(hindi.get(name) ?? "")).map((it) => `${name}: ${it.en}: ${hindi.get(name)}`));
+  assert.deepEqual(wrong, []);
+});
+
+/** Returns each sentence in which a word is that has another one in its place. */
+const misnamed = (sentences, never) => sentences.flatMap((text) => never.filter(([word]) => word.test(text)).map(([word, instead]) => `${word} (${instead}): ${text}`));
+
+test("no word is in place of a term", () => {
+  for (const [name, language] of [["words.js", "en"], ["words.hi.js", "hi"]]) {
+    const code = readFileSync(new URL(`../${name}`, import.meta.url), "utf-8").replace(/^\s*(?:\/\/.*|\/\*\*(?:.|\n)*?\*\/)\n/gm, "");
+    assert.deepEqual(misnamed(literals(code), NEVER[language]), [], name);
+  }
+});
+
+test("nor in the pages that the web server shows in place of a number", () => {
+  const folder = new URL("../../deploy/pages/", import.meta.url);
+  for (const name of readdirSync(folder)) {
+    const lines = readFileSync(new URL(name, folder), "utf-8").split("\n");
+    for (const language of ["en", "hi"]) {
+      const own = lines.filter((it) => it.includes('lang="hi"') === (language === "hi")).map((it) => it.replace(/<[^>]*>/g, ""));
+      assert.deepEqual(misnamed(own, NEVER[language]), [], name);
+    }
+  }
+});
+
+test("a wrong word is found", () => {
+  assert.equal(misnamed(["The students wait."], NEVER.en).length, 1);
+  assert.equal(misnamed(["यह सत्र पूरा हुआ।"], NEVER.hi).length, 1);
+  assert.deepEqual(literals('({ a }) => (a ? `Round ${figure("x")} of ${b}.` : "none")'), ["x", "Round … of ….", "none"]);
+});
+
+test("figures and moments are written as in India", () => {
+  const end = Date.parse("2026-12-02T17:00:00+05:30");
+  assert.equal(en.moment(end), "5 pm on 2 December");
+  assert.equal(hi.moment(end), "2 दिसंबर, शाम 5 बजे");
+  assert.equal(en.moment(end + 65 * 60_000), "6:05 pm on 2 December");
+  assert.match(en.CUTOFFS.caption(1, 250_000), /2,50,000/);
+  assert.match(en.CLOSES(1, end, 3_600_000), /1 hour left/);
+});
+
+test("a cutoff is said in words, with how far a place is from it", () => {
+  const lines = [{ traits: "", place: 8017 }, { traits: "W", place: 9846 }, { traits: "D", place: Infinity }];
+  assert.equal(en.CUTOFFS.ends(lines), "8,017 · women 9,846 · persons with disabilities any place");
+  const far = { step: "OPEN", lines, best: lines[0], place: 37368, isWithin: false };
+  assert.equal(en.WHY.compare(far), "Open seats end at place 8,017 (women 9,846, persons with disabilities any place). Yours is 37,368, 29,351 behind.");
+  assert.equal(en.WHY.compare({ ...far, best: lines[1] }), "Open seats end at place 8,017 (women 9,846, persons with disabilities any place). Yours is 37,368, 27,522 behind the 9,846 for women.");
+  assert.equal(hi.WHY.compare(far), "ओपन सीटें रैंक 8,017 तक (महिलाएँ 9,846, दिव्यांग किसी भी रैंक पर)। आपकी रैंक 37,368 है, 29,351 पीछे।");
+});
