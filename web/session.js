@@ -114,11 +114,14 @@ export function endVisit() {
 
 /** Returns the sign-in that the page before left in this tab, or null. */
 export async function takeFromLast() {
-  if (!window.name.startsWith(VISIT)) return null;
+  const visit = window.name;
+  if (!visit.startsWith(VISIT)) return null;
   try {
     worker = (await navigator.serviceWorker.getRegistration("/"))?.active ?? null;
     for (let asked = 0; worker && asked < ASKS; asked++) {
       const found = await taken();
+      // somebody may have signed in here meanwhile
+      if (window.name !== visit) return null;
       if (!found) continue;
       const who = new SignIn(found.token, { cand: found.cand });
       holdOn(who);

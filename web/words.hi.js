@@ -79,7 +79,6 @@ export const LABELS = {
   entryTitle: "रजिस्टर में आपका विवरण",
   seatTitle: "आपकी सीट",
   receiptsTitle: "आपकी रसीदें",
-  receiptsIntro: "कार्यालय ने आपके जितने जवाब दर्ज किए हैं, वे सब यहाँ हैं।",
   whyTitle: "दूसरा प्रोग्राम क्यों नहीं मिला?",
   explain: "हर प्रोग्राम का कारण बताएँ",
 
@@ -444,7 +443,7 @@ export const STATE = {
     withdrawn: () => [SEAT.special],
     noshow: () => [SEAT.special],
   },
-  moved: (from, to, seat) => `इस राउंड में आप ऊपर गए हैं: पसंद ${from} (${seat}) से पसंद ${to} पर।`,
+  moved: (from, to) => `आप ऊपर गए हैं: पसंद ${from} से पसंद ${to} पर।`,
   first: (to) => `यह आपकी पसंद ${to} है।`,
 };
 
@@ -457,7 +456,7 @@ export const CHOICES = {
   },
   float: {
     name: "फ्लोट",
-    line: ({ isSame, higher }) => (isSame ? "यही सीट रखें।" : `इसे रखें, और लिस्ट में ऊपर के ${count(higher.length, "प्रोग्राम", "प्रोग्रामों")} में से कोई मिले तो ऊपर जाएँ।`),
+    line: ({ isSame, higher }) => (isSame ? "यही सीट रखें।" : `इसे रखें, और लिस्ट में ${higher.length === 1 ? "इससे ऊपर का प्रोग्राम" : `ऊपर के ${figure(higher.length)} प्रोग्रामों में से कोई`} मिले तो ऊपर जाएँ।`),
     does: ({ isSame, isLast, higher }) =>
       isLast
         ? ["यही सीट रखें। यही आपका अंतिम प्रवेश होगा, क्योंकि इसके बाद कोई राउंड नहीं है जिसमें आप ऊपर जा सकें।"]
@@ -505,9 +504,10 @@ export const STANDINGS = {
 };
 
 export const SEAT = {
-  fields: { candidate: "उम्मीदवार", seat: "सीट", final: "अंतिम प्रवेश", institute: "संस्थान", kind: "सीट का प्रकार", choice: "आपकी लिस्ट में", place: (list) => `${list} में आपकी रैंक`, round: "राउंड", standing: "स्थिति" },
+  fields: { candidate: "उम्मीदवार", seat: "सीट", final: "अंतिम प्रवेश", institute: "संस्थान", kind: "सीट का प्रकार", choice: "आपकी लिस्ट में", before: "पिछले राउंड में", place: (list) => `${list} में आपकी रैंक`, round: "राउंड", standing: "स्थिति" },
   none: "नहीं है",
   choice: (at) => `पसंद ${at}`,
+  before: (at, seat) => `पसंद ${at}: ${seat}`,
   final: "यह प्रवेश अंतिम है।",
   noAdmission: "सभी राउंड हो गए और आपको प्रवेश नहीं मिला।",
   special: "अगर बोर्ड खाली सीटों के लिए विशेष राउंड करे, तो आप उसके लिए नई लिस्ट दे सकते हैं।",

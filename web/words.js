@@ -80,7 +80,6 @@ export const LABELS = {
   entryTitle: "Your entry in the register",
   seatTitle: "Your seat",
   receiptsTitle: "Your receipts",
-  receiptsIntro: "These are all the answers that the office has taken from you.",
   whyTitle: "Why not another programme?",
   explain: "Explain each programme",
 
@@ -450,7 +449,7 @@ export const STATE = {
     withdrawn: () => [SEAT.special],
     noshow: () => [SEAT.special],
   },
-  moved: (from, to, seat) => `You moved up in this round: from your choice ${from}, ${seat}, to your choice ${to}.`,
+  moved: (from, to) => `You moved up: from your choice ${from} to your choice ${to}.`,
   first: (to) => `It is your choice ${to}.`,
 };
 
@@ -463,7 +462,7 @@ export const CHOICES = {
   },
   float: {
     name: "Float",
-    line: ({ isSame, higher }) => (isSame ? "Keep this seat." : `Keep it, and move up if one of ${count(higher.length, "programme")} higher on your list admits you.`),
+    line: ({ isSame, higher }) => (isSame ? "Keep this seat." : `Keep it, and move up if ${higher.length === 1 ? "the programme" : `one of ${count(higher.length, "programme")}`} higher on your list admits you.`),
     does: ({ isSame, isLast, higher }) =>
       isLast
         ? ["Keep this seat. It becomes your final admission, because no round follows in which you could move up."]
@@ -511,9 +510,10 @@ export const STANDINGS = {
 };
 
 export const SEAT = {
-  fields: { candidate: "Candidate", seat: "Seat", final: "Final admission", institute: "Institute", kind: "Kind of seat", choice: "On your list", place: (list) => `Your place in ${list}`, round: "Round", standing: "Status" },
+  fields: { candidate: "Candidate", seat: "Seat", final: "Final admission", institute: "Institute", kind: "Kind of seat", choice: "On your list", before: "In the round before", place: (list) => `Your place in ${list}`, round: "Round", standing: "Status" },
   none: "none",
   choice: (at) => `choice ${at}`,
+  before: (at, seat) => `choice ${at}: ${seat}`,
   final: "This admission is final.",
   noAdmission: "The rounds ended without an admission for you.",
   special: "If the board holds a special round for vacant seats, you may hand in a new list for it.",

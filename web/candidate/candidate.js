@@ -14,10 +14,9 @@ const [UNKNOWN, DENIED, LATE] = [1, 3, 6];
 const STAYS = ["freeze", "float", "slide"];
 // in the round before, somebody's seat is looked for in so many lists
 const MOST_LISTS = 30;
-const EARLY = ["entry", "why", "seat", "receipts", "answer"];
+// the parts of the page in their order: first what the candidate may have to do
 const ORDER = {
-  early: EARLY,
-  earlyEmpty: EARLY,
+  early: ["entry", "why", "seat", "receipts", "answer"],
   waiting: ["seat", "why", "receipts", "answer", "entry"],
   waitingEmpty: ["seat", "why", "receipts", "answer", "entry"],
   rest: ["answer", "seat", "receipts", "why", "entry"],
@@ -175,10 +174,9 @@ async function load(who, seatIsHere = () => {}) {
   return true;
 }
 
-/** Puts the parts of the page into the order of this situation: first what the candidate may have to do. */
+/** Puts the parts of the page into the order of this situation. */
 function arrange(who) {
-  const kind = situation(who);
-  const order = ORDER[kind] ?? ORDER.rest;
+  const order = who.state.published === 0 ? ORDER.early : (ORDER[situation(who)] ?? ORDER.rest);
   const mine = $("mine");
   const parts = order.map((it) => $(`${it}-part`));
   const now = [...mine.children].filter((it) => parts.includes(it));
@@ -224,13 +222,14 @@ function showTitle(who) {
   const at = kind === "offered" && who.choices ? who.choices.programmes.indexOf(seat.programme) + 1 : 0;
   show(
     $("lead"),
-    who.move && given.seat && el("p", { class: "say good" }, STATE.moved(who.move.from, who.move.to, seatName(who.move.held))),
+    who.move && given.seat && el("p", { class: "say good" }, STATE.moved(who.move.from, who.move.to)),
     [...STATE.lead[kind](given), at > 0 && STATE.first(at)].filter(Boolean).join(" "),
     kind === "offered" && end === null && ANSWER.noEnd,
     ["early", "earlyEmpty", "waitingEmpty"].includes(kind) && el("div", { id: "lead-contact" }),
   );
   if ($("lead-contact")) showContact($("lead-contact"), HELP.ask, HELP.unknown);
-  showEnd($("closes"), state, end, LEFT);
+  // who is out, or admitted, has nothing to do by then
+  showEnd($("closes"), state, ["withdrawn", "noshow"].includes(kind) ? null : end, LEFT);
 }
 
 /** Looks in the lists of the round before where the candidate was, and says it if that was lower on the list. */
@@ -244,8 +243,10 @@ async function seekMove(who) {
     if (!new RegExp(`^${who.cand} [A-Z-]$`, "m").test(got.body.text)) continue;
     const move = moved(choices.programmes, code, seat.programme);
     who.moveOf = state.published;
-    if (move) who.move = { ...move, held: code };
-    if (move) showTitle(who);
+    if (!move) return;
+    who.move = { ...move, held: code };
+    showTitle(who);
+    showSeat(who);
     return;
   }
 }
@@ -262,6 +263,7 @@ function showSeat(who) {
     if (instituteOf(seat.programme)) rows.push([SEAT.fields.institute, instituteName(instituteOf(seat.programme))]);
     rows.push([SEAT.fields.kind, kindOfSeat(seat.step)]);
     if (at) rows.push([SEAT.fields.choice, SEAT.choice(at)]);
+    if (who.move) rows.push([SEAT.fields.before, SEAT.before(who.move.from, seatName(who.move.held))]);
     if (place) rows.push([SEAT.fields.place(listName(list)), ENTRY.place(place.place, place.isCommon)]);
     rows.push([SEAT.fields.round, seat.round]);
   } else rows.push([field, SEAT.none]);
