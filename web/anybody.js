@@ -1,7 +1,7 @@
 /** The page for anybody: how far the season is, the cutoffs, the seats of a programme, the text of a round, and the two questions of a refusal. */
 import { askList, askRound, askState, hasPaper } from "./ask.js";
 import { $, busy, clear, details, dropLinks, el, onPress, onSend, ownWords, ready, saveLink, say, table, textBox, valueOf, verbatim } from "./dom.js";
-import { fillLike, showCutoffs, showLike } from "./finder.js";
+import { fillLike, nameLists, showCutoffs, showLike } from "./finder.js";
 import { listPicture } from "./picture.js";
 import { isCandidate, isCode, lineOf, readList, readRound, readSheet, twoQuestions, Unreadable } from "./rule.js";
 import { announcedEnd, instituteName, instituteOf, lookAgain, papersCome, programmeName, programmeOf, showContact, showEnd, showNotice, showState } from "./season.js";
@@ -178,4 +178,4 @@ ready();
 startVisit();
 showNotice($("notice"));
 showContact($("contact"));
-busy(look).then(papersCome);
+busy(look).then(papersCome).then(nameLists);

@@ -3,7 +3,7 @@ import { askCutoffs, paper } from "./ask.js";
 import { compared, firstWithin, bySteps, readCutoffs, readCutoffTable, readPlace } from "./cutoffs.js";
 import { $, clear, el, inParts, ownWords, say, show, table, valuesOf } from "./dom.js";
 import { isCode, TRAITS } from "./rule.js";
-import { instituteName, instituteOf, papersCome, programmeName, programmeOf } from "./season.js";
+import { instituteName, instituteOf, isUsed, listName, papersCome, programmeName, programmeOf } from "./season.js";
 import { ASKING, CATEGORIES, CUTOFFS, FAULTS, HOLDS, kindOfSeat, LIKE, MOCK, NOT_DISABILITY, trouble } from "./words.js";
 
 const AT_ONCE = 50;
@@ -76,6 +76,15 @@ function showTable(out, round, programmes) {
 export function fillLike() {
   $("category").append(...Object.entries(CATEGORIES).map(([value, words]) => el("option", { value }, words)));
   $("trait-boxes").append(...TRAITS.map((it) => el("label", { class: "check" }, el("input", { type: "checkbox", "data-trait": it }), ` ${HOLDS[it]}`)));
+}
+
+/** Names the merit lists as people know them, and leaves out those that no published programme uses. */
+export function nameLists() {
+  for (const it of LISTS) {
+    const field = $(`place-${it}`);
+    field.labels[0].textContent = listName(it);
+    field.closest("p").hidden = !isUsed(it);
+  }
 }
 
 /** Shows the programmes that would admit one person more with the category, the traits and the places that were typed. */

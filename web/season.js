@@ -48,6 +48,9 @@ export function seatName(code) {
 /** Returns a merit list by its name, or by its number. */
 export const listName = (number) => names.lists.get(String(number)) ?? ENTRY.list(number);
 
+/** Returns whether a published programme uses a merit list; where none is published, each may be used. */
+export const isUsed = (number) => known.size === 0 || [...known.values()].some((it) => it.list === number);
+
 /** Returns who holds the season and what it is called, each undefined where the papers do not say it. */
 export const seasonTitles = () => names.titles.map((it) => (typeof it === "string" ? it : undefined));
 

@@ -265,7 +265,7 @@ function endOf(step, lines) {
 }
 
 export const CUTOFFS = {
-  columns: ["प्रोग्राम", "संस्थान", "आख़िरी रैंक जिस पर सीट अब भी मिल जाती"],
+  columns: ["प्रोग्राम", "संस्थान", "किस रैंक तक"],
   caption: (round, number) => `${roundName(round)} के कट-ऑफ़: ${count(number, "प्रोग्राम")}`,
   ends,
   more: (some, all) => `बाकी ${figure(all)} में से ${some} और दिखाएँ`,

@@ -264,7 +264,7 @@ function endOf(step, lines) {
 }
 
 export const CUTOFFS = {
-  columns: ["Programme", "Institute", "The worst place that would still be admitted"],
+  columns: ["Programme", "Institute", "Ends at place"],
   caption: (round, number) => `Cutoffs of ${roundName(round)}: ${count(number, "programme")}`,
   ends,
   more: (some, all) => `Show ${some} more of ${figure(all)}`,
