@@ -102,9 +102,12 @@ export async function showState(region) {
 
 let shown = null;
 
+/** Fetches the paper with the announced end, which a page may ask for before it knows which window is open. */
+export const endPaper = () => jsonPaper("window.json", freshPaper);
+
 /** Returns the announced end of the open window in milliseconds, or null where the papers do not say it. */
-export async function announcedEnd(state) {
-  const found = await jsonPaper("window.json", freshPaper);
+export async function announcedEnd(state, paper = endPaper()) {
+  const found = await paper;
   const end = Date.parse(found?.closes ?? "");
   return found?.window === state.now && state.now <= state.rounds && !Number.isNaN(end) ? end : null;
 }

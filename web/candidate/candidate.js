@@ -5,7 +5,7 @@ import { $, askBeforeLeaving, button, canBeShown, clear, closeQuestions, confirm
 import { printLetter } from "../letter.js";
 import { listPicture } from "../picture.js";
 import { CHOICES as ALL_CHOICES, grouped, heldBefore, isCandidate, isToken, lineOf, MOST_TURNS, moved, openNow, readList, readWhy, receiptsOf, settledByList, situation } from "../rule.js";
-import { announcedEnd, instituteName, instituteOf, listName, lookAgain, papersCome, programmeOf, seatName, showContact, showEnd, showNotice } from "../season.js";
+import { announcedEnd, endPaper, instituteName, instituteOf, listName, lookAgain, papersCome, programmeOf, seatName, showContact, showEnd, showNotice } from "../season.js";
 import { carry, endVisit, leaveForNext, leaveInTime, SignIn, takeFromLast } from "../session.js";
 import { ANSWER, ASKING, CATEGORIES, CHOICES, ENTRY, HELP, HOLDS, HOLDS_NOTHING, kindOfSeat, LABELS, LATER, LEFT, LIST_FAULTS, moment, NOT_DISABILITY, OLD, OWN_WORDS, phase, RECEIPTS, SEAT, SETTLED, STANDINGS, STATE, trouble, VISIT, WAITING, WHY } from "../words.js";
 
@@ -148,6 +148,7 @@ async function own(who, kind, path = `${kind}/${who.cand}`) {
 
 /** Asks for the seat and the state, of one and the same round, and shows them at once; then for the rest. Returns whether all came. */
 async function load(who, seatIsHere = () => {}) {
+  const paper = endPaper();
   const all = await asking(who, async () => {
     for (let tries = 0; tries < 3; tries++) {
       const [seat, state] = await Promise.all([own(who, "seat"), own(who, "state", "state")]);
@@ -157,7 +158,7 @@ async function load(who, seatIsHere = () => {}) {
     if (who.moveOf !== who.state.published) who.move = null;
     const more = Promise.all([own(who, "answers"), who.entry ?? own(who, "register"), who.choices ?? own(who, "choices")]);
     more.catch(() => null);
-    who.end = await announcedEnd(who.state);
+    who.end = await announcedEnd(who.state, paper);
     if (who !== me) return null;
     say($("said"), "plain");
     showTitle(who);
