@@ -107,15 +107,18 @@ export function leaveForNext(who) {
 /** Ends the visit on all pages of this tab. */
 export function endVisit() {
   clearInterval(beat);
-  if (!window.name.startsWith(VISIT)) return;
+  if (!isVisit()) return;
   tell({ isOver: true });
   window.name = "";
 }
 
+/** Returns whether this tab may be on a visit. */
+export const isVisit = () => window.name.startsWith(VISIT);
+
 /** Returns the sign-in that the page before left in this tab, or null. */
 export async function takeFromLast() {
   const visit = window.name;
-  if (!visit.startsWith(VISIT)) return null;
+  if (!isVisit()) return null;
   try {
     worker = (await navigator.serviceWorker.getRegistration("/"))?.active ?? null;
     for (let asked = 0; worker && asked < ASKS; asked++) {

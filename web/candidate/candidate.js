@@ -6,7 +6,7 @@ import { printLetter } from "../letter.js";
 import { listPicture } from "../picture.js";
 import { CHOICES as ALL_CHOICES, grouped, heldBefore, isCandidate, isToken, lineOf, MOST_TURNS, moved, openNow, readList, readWhy, receiptsOf, settledByList, situation } from "../rule.js";
 import { announcedEnd, endPaper, instituteName, instituteOf, listName, lookAgain, papersCome, programmeOf, seatName, showContact, showEnd, showNotice } from "../season.js";
-import { carry, endVisit, leaveForNext, leaveInTime, SignIn, takeFromLast } from "../session.js";
+import { carry, endVisit, isVisit, leaveForNext, leaveInTime, SignIn, takeFromLast } from "../session.js";
 import { ANSWER, ASKING, CATEGORIES, CHOICES, ENTRY, HELP, HOLDS, HOLDS_NOTHING, kindOfSeat, LABELS, LATER, LEFT, LIST_FAULTS, moment, NOT_DISABILITY, OLD, OWN_WORDS, phase, RECEIPTS, SEAT, SETTLED, STANDINGS, STATE, trouble, VISIT, WAITING, WHY } from "../words.js";
 
 const AT_ONCE = 20;
@@ -105,10 +105,18 @@ function leave(cause) {
 
 /** Signs in by what the page before left in this tab. */
 async function comesBack() {
+  if (!isVisit()) return;
+  // the door is not shown for a moment to somebody who is in already
+  $("door").hidden = true;
+  say($("said"), "plain", ASKING);
   const found = await takeFromLast();
-  if (!found || me !== null) return;
-  carries = true;
-  await comesAs(found);
+  if (me !== null) return;
+  if (found) {
+    carries = true;
+    return comesAs(found);
+  }
+  $("door").hidden = false;
+  say($("said"), "plain");
 }
 
 /** Says that the office refused or did not reply. A refused number or token ends the sign-in, and a missing reply does not. What was typed stays, so that a slip can be mended. */
@@ -289,7 +297,7 @@ function showEntry(who) {
   const isEarly = state.published === 0;
   const places = entry.places.map((it, at) => [at + 1, readPlace(it)]).filter(([, it]) => it);
   const rows = [[ENTRY.fields.category, CATEGORIES[entry.category] ?? entry.category], [ENTRY.fields.traits, heldWords(entry.traits)], ...places.map(([list, it]) => [ENTRY.fields.place(listName(list)), ENTRY.place(it.place, it.isCommon)])];
-  const parts = [facts(rows), places.length === 0 && ENTRY.nowhere, details(OWN_WORDS, verbatim(lineOf(entry)))].filter(Boolean).map((it) => (typeof it === "string" ? el("p", {}, it) : it));
+  const parts = [facts(rows), places.length === 0 && ENTRY.nowhere, details(OWN_WORDS, verbatim(lineOf(entry))), details(ENTRY.seen, ...paragraphs(ENTRY.public))].filter(Boolean).map((it) => (typeof it === "string" ? el("p", {}, it) : it));
   if (isEarly) show($("entry"), el("p", { class: "say" }, ENTRY.check), ...parts);
   else if (!$("entry").querySelector("details[open]")) show($("entry"), ENTRY.later, details(ENTRY.open, ...parts));
 }
@@ -518,10 +526,12 @@ async function refusedParts(who, code, why, text) {
   const got = await askCutoffs(who.state.published, code, how(who));
   who.papers.get(code).cutoffs = got.body?.text;
   const line = (it) => (it.seats === 0 ? WHY.noSeats : it.worse ? WHY.worseYes(it.seats) : WHY.worseNo(it.seats));
-  const reasons = why.steps.map((it) => el("li", {}, el("strong", {}, `${kindOfSeat(it.name)}: `), line(it)));
-  const hasD = why.steps.some((it) => it.name === "D" && it.seats > 0);
+  // kinds of seats that the programme does not have are in the office's own words alone, unless there is no other
+  const withSeats = why.steps.filter((it) => it.seats > 0);
+  const reasons = (withSeats.length ? withSeats : why.steps).map((it) => el("li", {}, el("strong", {}, `${kindOfSeat(it.name)}: `), line(it)));
+  const hasD = withSeats.some((it) => it.name === "D");
   return [
-    ...comparison(who, code, got, why.steps.filter((it) => it.seats > 0).map((it) => it.name)),
+    ...comparison(who, code, got, withSeats.map((it) => it.name)),
     ...(reasons.length ? [WHY.refused, el("ul", {}, reasons)] : [WHY.nowhere]),
     hasD && el("p", {}, el("strong", {}, NOT_DISABILITY)),
     lazyDetails(WHY.seats(seatName(code)), () => seatsOf(who, code, why)),
