@@ -161,12 +161,12 @@ export const paragraphs = (lines, most = 6) =>
     return el("ul", {}, some.map((one) => el("li", {}, one)));
   });
 
-/** Asks whether to go on, and returns the answer. The first button is No, so that Enter and Escape mean No. With `type` the button Yes opens
+/** Asks whether to go on, and returns the answer. The first button is No, so that Enter and Escape mean No also from the box. With `type` the button Yes opens
  * only when its text is typed, and with `tick` when its box is ticked. Call it from what `busy` waits for: meanwhile the page waits for a person
  * and is not busy. */
 export function confirmed({ title, lines, yes, grave = false, type = null, tick = null }) {
   const confirm = el("button", { value: "yes", class: grave ? "grave" : "main", disabled: type !== null || tick !== null }, yes);
-  const box = tick && el("input", { type: "checkbox", id: "ticked", on: { change: () => (confirm.disabled = !box.checked) } });
+  const box = tick && el("input", { type: "checkbox", id: "ticked", autofocus: true, on: { change: () => (confirm.disabled = !box.checked) } });
   const look = () => (confirm.disabled = spaced(field.value) !== spaced(type.text));
   const field = type && el("input", { id: "typed", inputmode: type.mode ?? "text", autocomplete: "off", autocapitalize: "off", spellcheck: "false", on: { input: look } });
   const ask = el(
@@ -179,7 +179,7 @@ export function confirmed({ title, lines, yes, grave = false, type = null, tick 
       { method: "dialog" },
       box && el("p", {}, el("label", { class: "check", for: "ticked" }, box, ` ${tick}`)),
       field && el("p", {}, el("label", { for: "typed" }, type.label), field),
-      el("p", { class: "row" }, el("button", { value: "no", autofocus: true }, NO), confirm),
+      el("p", { class: "row" }, el("button", { value: "no", autofocus: !box }, NO), confirm),
     ),
   );
   document.body.append(ask);

@@ -1,9 +1,9 @@
 /* Carries who is signed in from one page of a visit to the next. It runs apart from the pages, so it outlives the page that is left, and what it holds is in memory alone: nothing is
- * written anywhere. After half a minute without a word of a page, when the next page has taken it, or when somebody signs out, it is gone. It answers no request of a page. */
+ * written anywhere. After half a minute without a word of a page, or when somebody signs out, it is gone. It answers no request of a page. */
 "use strict";
 const MOST = 30_000;
 // a page that was put aside may send late what it meant to send before
-const LATE = 5_000;
+const LATE = 10_000;
 const held = new Map();
 const ended = new Set();
 
@@ -27,6 +27,5 @@ addEventListener("message", (event) => {
     held.delete(name);
   } else if (!value) {
     event.ports[0].postMessage(held.get(name)?.value ?? null);
-    held.delete(name);
   } else if (!ended.has(name) && Date.now() - at < LATE) event.waitUntil(put(name, value));
 });

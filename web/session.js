@@ -8,7 +8,7 @@ const IDLE = 15 * 60 * 1000;
 const WARNING = 13 * 60 * 1000;
 const TOUCHES = ["keydown", "input", "pointerdown", "wheel", "touchstart"];
 // how often and how long the next page asks for what the one before left: that page may still be going while this one is there
-const ASKS = 8;
+const ASKS = 14;
 const SOON = 150;
 const VISIT = "visit:";
 const EVERY = 15_000;
@@ -121,25 +121,28 @@ export async function takeFromLast() {
   if (!isVisit()) return null;
   try {
     worker = (await navigator.serviceWorker.getRegistration("/"))?.active ?? null;
-    for (let asked = 0; worker && asked < ASKS; asked++) {
-      const found = await taken();
-      // somebody may have signed in here meanwhile
-      if (window.name !== visit) return null;
-      if (!found) continue;
-      const who = new SignIn(found.token, { cand: found.cand });
-      holdOn(who);
-      return who;
-    }
+    const found = worker && (await taken());
+    // somebody may have signed in here meanwhile
+    if (!found || window.name !== visit) return null;
+    const who = new SignIn(found.token, { cand: found.cand });
+    holdOn(who);
+    return who;
   } catch {
     worker = null;
+    return null;
   }
-  return null;
 }
 
-/** Asks once for what the page before left, and returns null if it is not there after a moment. */
-async function taken() {
-  const { port1, port2 } = new MessageChannel();
-  const came = new Promise((then) => (port1.onmessage = ({ data }) => data && then(data)));
-  tell({}, [port2]);
-  return Promise.race([came, new Promise((then) => setTimeout(() => then(null), SOON))]);
+/** Asks for what the page before left, again and again for a moment, and returns it or null. */
+function taken() {
+  return new Promise((then) => {
+    const asks = (left) => {
+      if (left === 0) return then(null);
+      const { port1, port2 } = new MessageChannel();
+      port1.onmessage = ({ data }) => data && then(data);
+      tell({}, [port2]);
+      setTimeout(asks, SOON, left - 1);
+    };
+    asks(ASKS);
+  });
 }

@@ -242,7 +242,7 @@ export const CLOSES = (window, end, ms) =>
     : `विंडो ${window} का घोषित समय निकल चुका है। क्लर्क इसे किसी भी क्षण बंद कर सकता है।`;
 
 /** The same below a heading that names the end. */
-export const LEFT = (window, end, ms) => (ms > 0 ? `${left(ms)} बाकी, भारतीय समय के अनुसार।` : CLOSES(window, end, ms));
+export const LEFT = (window, end, ms) => (ms > 0 ? `${left(ms)} बाकी (भारतीय समय)।` : CLOSES(window, end, ms));
 
 export const ASKING = "कार्यालय से पूछा जा रहा है …";
 export const WAITING = "कार्यालय से अभी जवाब नहीं आया। पन्ना अपने आप फिर पूछ रहा है।";

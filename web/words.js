@@ -241,7 +241,7 @@ export const CLOSES = (window, end, ms) =>
     : `The announced end of window ${window} has passed. The clerk may close it at any moment.`;
 
 /** The same below a heading that names the end. */
-export const LEFT = (window, end, ms) => (ms > 0 ? `${left(ms)} left, by the clock of India.` : CLOSES(window, end, ms));
+export const LEFT = (window, end, ms) => (ms > 0 ? `${left(ms)} left. Hours are in Indian time.` : CLOSES(window, end, ms));
 
 export const ASKING = "Asking the office …";
 export const WAITING = "The office does not answer yet. The page asks again by itself.";
