@@ -3,10 +3,10 @@ import { askList, askRound, askState, hasPaper } from "./ask.js";
 import { $, busy, clear, details, dropLinks, el, onPress, onSend, ownWords, ready, saveLink, say, table, textBox, valueOf, verbatim } from "./dom.js";
 import { fillLike, nameLists, showCutoffs, showLike } from "./finder.js";
 import { listPicture } from "./picture.js";
-import { isCandidate, isCode, lineOf, readList, readRound, readSheet, twoQuestions, Unreadable } from "./rule.js";
+import { isCandidate, isCode, lineOf, readList, readRound, readSheet, readSpecial, twoQuestions, Unreadable } from "./rule.js";
 import { announcedEnd, instituteName, instituteOf, lookAgain, papersCome, programmeName, programmeOf, showContact, showEnd, showNotice, showState } from "./season.js";
 import { startVisit } from "./visit.js";
-import { ARRIVING, ASKING, EXAMPLE, FAULTS, MOCK, NOT_DISABILITY, OWN_WORDS, QUESTIONS, ROUND, SEATS, trouble } from "./words.js";
+import { ARRIVING, ASKING, EXAMPLE, FAULTS, MOCK, NOT_DISABILITY, OWN_WORDS, QUESTIONS, ROUND, SEATS, SPECIAL, trouble } from "./words.js";
 
 const MOST_LINES = 400;
 const MOST_ROWS = 200;
@@ -26,8 +26,10 @@ async function look() {
   $("mock").textContent = mock.length ? ROUND.mock : "";
   options($("list-round"), rounds(season.published));
   for (const it of ["cutoffs-round", "like-round"]) options($(it), [...mock, ...rounds(season.published)]);
+  // after the end the board may hold a special round, whose text is a paper alone too
+  const special = season.now > season.rounds && (await hasPaper("special.txt")) ? [SPECIAL] : [];
   // each cut published a text; the last one is of the final admissions
-  options($("round"), [...mock, ...rounds(season.now)]);
+  options($("round"), [...mock, ...rounds(season.now), ...special]);
 }
 
 const rounds = (most) => Array.from({ length: most }, (_, at) => at + 1);
@@ -88,9 +90,10 @@ async function showRound() {
   const wanted = $("find").value.trim() === "" ? "" : valueOf($("find"), isCandidate, "candidate");
   if (wanted === null) return;
   say(said, "plain", ASKING);
-  const [round, isFinal] = [chosen === MOCK ? MOCK : Number(chosen), Number(chosen) > season.rounds];
-  const name = isFinal ? "final.txt" : round === MOCK ? "mock-round.txt" : `round-${round}.txt`;
-  const got = await askRound(name, round === MOCK ? null : round, { came: (bytes) => bytes > LONG && say(said, "plain", ARRIVING(bytes)) });
+  const isPaper = [MOCK, SPECIAL].includes(chosen);
+  const [round, isFinal] = [isPaper ? chosen : Number(chosen), Number(chosen) > season.rounds];
+  const name = isFinal ? "final.txt" : round === MOCK ? "mock-round.txt" : round === SPECIAL ? "special.txt" : `round-${round}.txt`;
+  const got = await askRound(name, isPaper ? null : round, { came: (bytes) => bytes > LONG && say(said, "plain", ARRIVING(bytes)) });
   if (got.body?.reply !== "round") return say(said, "bad", got.trouble === "broken" ? ROUND.missing : trouble(got), ownWords(got));
   await papersCome();
   const { text } = got.body;
@@ -108,7 +111,7 @@ async function showRound() {
 function summary(round, isFinal, text, wanted) {
   let rows;
   try {
-    rows = readRound(text);
+    rows = round === SPECIAL ? readSpecial(text) : readRound(text);
   } catch {
     return [];
   }

@@ -72,6 +72,12 @@ export function readRound(text) {
   return rows;
 }
 
+/** Reads what the special round gave: its rows, as of any round, after a line with the number of vacant seats. */
+export function readSpecial(text) {
+  matched(linesOf(text), 0, /^special seats (\d+) seated (\d+)$/);
+  return readRound(text.slice(text.indexOf("\n") + 1));
+}
+
 /** Reads a reason: its kind, what follows it, and for a refusal the steps at which the candidate was considered. */
 export function readWhy(text) {
   const lines = linesOf(text);

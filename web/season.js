@@ -17,7 +17,9 @@ async function fetchPapers() {
   const [season, found] = await Promise.all([jsonPaper("programmes.json"), jsonPaper("names.json")]);
   if (Array.isArray(season?.programmes)) known = new Map(season.programmes.map((it) => [it.code, it]));
   if (found) {
-    const [programmes, short, institutes, lists] = ["programmes", "short", "institutes", "lists"].map((it) => textsOf(found[it]));
+    // a name in the language of the page, where the papers have one
+    const both = (it) => new Map([...textsOf(found[it]), ...textsOf(found[document.documentElement.lang]?.[it])]);
+    const [programmes, short, institutes, lists] = ["programmes", "short", "institutes", "lists"].map(both);
     names = { programmes, short, institutes, lists, titles: [found.board, found.season] };
   }
   // what is not published yet, or did not arrive, may come later
@@ -56,7 +58,9 @@ export const seasonTitles = () => names.titles.map((it) => (typeof it === "strin
 
 /** Shows the notice of the office where there is one. */
 export async function showNotice(region) {
-  const notice = await freshPaper("notice.txt");
+  const { lang } = document.documentElement;
+  const own = lang === "en" ? null : await freshPaper(`notice.${lang}.txt`);
+  const notice = own?.trim() ? own : await freshPaper("notice.txt");
   if (notice?.trim()) region.replaceChildren(el("aside", { class: "box", "aria-label": NOTICE }, el("p", {}, el("strong", {}, NOTICE)), el("p", { class: "lines" }, notice.trim())));
 }
 

@@ -200,7 +200,9 @@ export const NOT_DISABILITY = "आरक्षण से मुक्त की 
 
 /** What stands for the mock round, which the office may publish before round 1. */
 export const MOCK = "mock";
-const roundName = (round) => (round === MOCK ? "मॉक राउंड" : `राउंड ${round}`);
+/** What stands for the special round, which the board may hold after the final admissions. */
+export const SPECIAL = "special";
+const roundName = (round) => ({ [MOCK]: "मॉक राउंड", [SPECIAL]: "विशेष राउंड" })[round] ?? `राउंड ${round}`;
 
 /** How far the season is, sentence by sentence. */
 export function phase({ now, rounds, published }) {
@@ -348,7 +350,7 @@ export const SETTLED = {
 };
 
 export const ROUND = {
-  option: (round, rounds) => (round === MOCK ? "मॉक राउंड" : round > rounds ? "अंतिम प्रवेश" : `राउंड ${round}`),
+  option: (round, rounds) => (round === MOCK ? "मॉक राउंड" : round === SPECIAL ? "विशेष राउंड" : round > rounds ? "अंतिम प्रवेश" : `राउंड ${round}`),
   summary: (round, rounds, rows) => (round > rounds ? `${count(rows, "उम्मीदवार", "उम्मीदवारों")} को प्रवेश मिला है।` : `${roundName(round)} में ${count(rows, "उम्मीदवार", "उम्मीदवारों")} के पास सीट है।`),
   mock: "मॉक राउंड आज की लिस्टों से किया गया अभ्यास है। इससे किसी को सीट नहीं मिलती, और राउंड 1 का परिणाम अलग हो सकता है।",
   cut: (shown, all) => `नीचे ${figure(all)} में से पहली ${figure(shown)} पंक्तियाँ हैं। पूरा पढ़ने के लिए इसे सेव करें।`,
@@ -429,6 +431,7 @@ export const STATE = {
     kept: ({ seat }) => `आपके पास ${seat} में सीट है।`,
     admitted: ({ seat }) => `आपको ${seat} में प्रवेश मिला है।`,
     without: () => "सभी राउंड हो चुके हैं, और आपके पास सीट नहीं है।",
+    special: ({ seat }) => `विशेष राउंड में आपको ${seat} में सीट मिली है।`,
     withdrawn: () => "आपने नाम वापस ले लिया है, और यह अंतिम है।",
     noshow: () => "आपकी सीट चली गई, क्योंकि आपने पहली सीट का जवाब समय पर नहीं दिया।",
   },
@@ -446,9 +449,10 @@ export const STATE = {
       `आपको कुछ करने की ज़रूरत नहीं। ${by ? `${by} तक` : `विंडो ${window} बंद होने तक`} ${isLast ? "आप केवल नाम वापस ले सकते हैं" : "आप अपना विकल्प बदल सकते हैं"}।`,
     ],
     admitted: () => ["यह प्रवेश अंतिम है।", "अब अपना पत्र छापें, और बोर्ड तथा संस्थान की सूचनाएँ देखें: वे बताती हैं कि कब और कहाँ पहुँचना है।"],
-    without: () => [SEAT.special],
-    withdrawn: () => [SEAT.special],
-    noshow: () => [SEAT.special],
+    without: ({ hasSpecial }) => [hasSpecial ? "विशेष राउंड में भी आपके पास सीट नहीं है।" : SEAT.special],
+    special: () => ["बोर्ड तथा संस्थान की सूचनाएँ देखें: वे बताती हैं कि कब और कहाँ पहुँचना है।"],
+    withdrawn: ({ hasSpecial }) => [hasSpecial ? "विशेष राउंड में भी आपके पास सीट नहीं है।" : SEAT.special],
+    noshow: ({ hasSpecial }) => [hasSpecial ? "विशेष राउंड में भी आपके पास सीट नहीं है।" : SEAT.special],
   },
   moved: (from, to) => `आप ऊपर गए हैं: पसंद ${from} से पसंद ${to} पर।`,
   first: (to) => `यह आपकी पसंद ${to} है।`,

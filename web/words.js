@@ -202,7 +202,9 @@ export const NOT_DISABILITY = "A de-reserved seat is one that a category left em
 
 /** What stands for the mock round, which the office may publish before round 1. */
 export const MOCK = "mock";
-const roundName = (round) => (round === MOCK ? "the mock round" : `round ${round}`);
+/** What stands for the special round, which the board may hold after the final admissions. */
+export const SPECIAL = "special";
+const roundName = (round) => ({ [MOCK]: "the mock round", [SPECIAL]: "the special round" })[round] ?? `round ${round}`;
 
 /** How far the season is, sentence by sentence. */
 export function phase({ now, rounds, published }) {
@@ -348,7 +350,7 @@ export const SETTLED = {
 };
 
 export const ROUND = {
-  option: (round, rounds) => (round === MOCK ? "Mock round" : round > rounds ? "Final admissions" : `Round ${round}`),
+  option: (round, rounds) => (round === MOCK ? "Mock round" : round === SPECIAL ? "Special round" : round > rounds ? "Final admissions" : `Round ${round}`),
   summary: (round, rounds, rows) =>
     round > rounds ? `${count(rows, "candidate is", "candidates are")} admitted.` : `${count(rows, "candidate has", "candidates have")} a seat in ${roundName(round)}.`,
   mock: "The mock round is a trial with the lists of today. Nobody has a seat by it, and round 1 may differ.",
@@ -435,6 +437,7 @@ export const STATE = {
     kept: ({ seat }) => `You have ${seat}.`,
     admitted: ({ seat }) => `You are admitted to ${seat}.`,
     without: () => "The rounds are over, and you have no seat.",
+    special: ({ seat }) => `The special round gives you ${seat}.`,
     withdrawn: () => "You withdrew, and that is final.",
     noshow: () => "You lost your seat, because you did not answer your first offer in time.",
   },
@@ -452,9 +455,10 @@ export const STATE = {
       `You need not do anything. ${isLast ? "You can only still withdraw" : "You can change your answer"} until ${by ?? `window ${window} closes`}.`,
     ],
     admitted: () => ["This admission is final.", "Next, print your letter, and follow the notices of the board and of the institute: they say when and where you report."],
-    without: () => [SEAT.special],
-    withdrawn: () => [SEAT.special],
-    noshow: () => [SEAT.special],
+    without: ({ hasSpecial }) => [hasSpecial ? "You have no seat in the special round either." : SEAT.special],
+    special: () => ["Follow the notices of the board and of the institute: they say when and where you report."],
+    withdrawn: ({ hasSpecial }) => [hasSpecial ? "You have no seat in the special round either." : SEAT.special],
+    noshow: ({ hasSpecial }) => [hasSpecial ? "You have no seat in the special round either." : SEAT.special],
   },
   moved: (from, to) => `You moved up: from your choice ${from} to your choice ${to}.`,
   first: (to) => `It is your choice ${to}.`,

@@ -1,10 +1,10 @@
 /** The page of a candidate: what to do and by when, the answers that are open, the seat, receipts, why not another programme, and the entry in the register. */
-import { ask, askCutoffs, askList, serverTime } from "../ask.js";
+import { ask, askCutoffs, askList, paper, serverTime } from "../ask.js";
 import { bySteps, compared, readCutoffs, readPlace } from "../cutoffs.js";
 import { $, askBeforeLeaving, button, canBeShown, clear, closeQuestions, confirmed, countSigns, details, dropLinks, el, emptyToken, lazyDetails, onPress, onSend, ownWords, paragraphs, ready, saveLink, say, sayFault, show, table, ungrouped, valuesOf, verbatim } from "../dom.js";
 import { printLetter } from "../letter.js";
 import { listPicture } from "../picture.js";
-import { CHOICES as ALL_CHOICES, grouped, heldBefore, isCandidate, isToken, lineOf, MOST_TURNS, moved, openNow, readList, readWhy, receiptsOf, settledByList, situation } from "../rule.js";
+import { CHOICES as ALL_CHOICES, grouped, heldBefore, isCandidate, isToken, lineOf, MOST_TURNS, moved, openNow, readList, readSpecial, readWhy, receiptsOf, settledByList, situation } from "../rule.js";
 import { announcedEnd, endPaper, instituteName, instituteOf, listName, lookAgain, papersCome, programmeOf, seatName, showContact, showEnd, showNotice } from "../season.js";
 import { carry, endVisit, isVisit, leaveForNext, leaveInTime, SignIn, takeFromLast } from "../session.js";
 import { ANSWER, ASKING, CATEGORIES, CHOICES, ENTRY, HELP, HOLDS, HOLDS_NOTHING, kindOfSeat, LABELS, LATER, LEFT, LIST_FAULTS, moment, NOT_DISABILITY, OLD, OWN_WORDS, phase, RECEIPTS, SEAT, SETTLED, STANDINGS, STATE, trouble, VISIT, WAITING, WHY } from "../words.js";
@@ -156,7 +156,7 @@ async function own(who, kind, path = `${kind}/${who.cand}`) {
 
 /** Asks for the seat and the state, of one and the same round, and shows them at once; then for the rest. Returns whether all came. */
 async function load(who, seatIsHere = () => {}) {
-  const paper = endPaper();
+  const closing = endPaper();
   const all = await asking(who, async () => {
     for (let tries = 0; tries < 3; tries++) {
       const [seat, state] = await Promise.all([own(who, "seat"), own(who, "state", "state")]);
@@ -166,7 +166,7 @@ async function load(who, seatIsHere = () => {}) {
     if (who.moveOf !== who.state.published) who.move = null;
     const more = Promise.all([own(who, "answers"), who.entry ?? own(who, "register"), who.choices ?? own(who, "choices")]);
     more.catch(() => null);
-    who.end = await announcedEnd(who.state, paper);
+    who.end = await announcedEnd(who.state, closing);
     if (who !== me) return null;
     say($("said"), "plain");
     showTitle(who);
@@ -180,6 +180,7 @@ async function load(who, seatIsHere = () => {}) {
   if (who !== me || !all) return false;
   showEverything(who);
   seekMove(who);
+  seekSpecial(who);
   return true;
 }
 
@@ -215,11 +216,12 @@ function showNames() {
 
 /** Shows, as the heading of the page, what the candidate has to do and by when. */
 function showTitle(who) {
-  const { seat, state, end } = who;
-  const kind = situation(who);
+  const { seat, state, end, special } = who;
+  const kind = special?.row ? "special" : situation(who);
   const isLate = end !== null && end <= serverTime();
   const given = {
-    seat: seat.programme && seatName(seat.programme),
+    seat: (special?.row ?? seat).programme && seatName((special?.row ?? seat).programme),
+    hasSpecial: Boolean(special),
     by: end !== null && !isLate ? moment(end) : null,
     isLate,
     isLast: isLast(who),
@@ -258,6 +260,20 @@ async function seekMove(who) {
     showSeat(who);
     return;
   }
+}
+
+/** Looks after the end whether a special round was published, and what it gave to a candidate without an admission. */
+async function seekSpecial(who) {
+  if (!isOver(who) || who.seat.programme || who.special) return;
+  const text = await paper("special.txt");
+  if (who !== me || !text) return;
+  try {
+    const row = readSpecial(text).find((it) => it.id === who.cand);
+    who.special = { row: row && { programme: row.code, step: row.step } };
+  } catch {
+    return;
+  }
+  showTitle(who);
 }
 
 function showSeat(who) {

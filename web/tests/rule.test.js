@@ -2,7 +2,7 @@
 import assert from "node:assert/strict";
 import { test } from "node:test";
 import { compared, firstWithin, readCutoffs, readCutoffTable, readPlace } from "../cutoffs.js";
-import { Filling, grouped, heldBefore, isToken, lineOf, moved, openNow, readList, readSheet, readWhy, settledByList, situation, twoQuestions, Unreadable } from "../rule.js";
+import { Filling, grouped, heldBefore, isToken, lineOf, moved, openNow, readList, readSheet, readSpecial, readWhy, settledByList, situation, twoQuestions, Unreadable } from "../rule.js";
 
 const state = (now, rounds = 3) => ({ reply: "state", now, rounds, published: Math.min(now, rounds) });
 const seat = (standing, programme = "A") => ({ reply: "seat", cand: 2, round: 1, standing, programme, step: programme && "OPEN" });
@@ -68,6 +68,8 @@ test("a place and the cutoffs of a programme", () => {
 test("the texts of the office", () => {
   const list = readList("list 1 P\nstep OPEN seats 3 candidates 4 admitted 2\nhonoured 1\n1 -\n2 W\nend list\n");
   assert.deepEqual(list.steps[0].rows, [{ id: 1, slot: "-" }, { id: 2, slot: "W" }]);
+  assert.deepEqual(readSpecial("special seats 2 seated 1\nround 1 seated 1\nallot 4 E OPEN\nend round\n"), [{ id: 4, code: "E", step: "OPEN" }]);
+  assert.throws(() => readSpecial("round 1 seated 1\nallot 4 E OPEN\nend round\n"), Unreadable);
   assert.deepEqual(readWhy("why 4 P refused\nOPEN seats 1 worse yes\nend why\n").steps, [{ name: "OPEN", seats: 1, worse: true }]);
   assert.equal(readWhy("why 4 P better Q\n").detail, "Q");
   assert.equal(lineOf({ reply: "noted", cand: 2, window: 1, turn: 1, choice: "float" }), "noted 2 window 1 turn 1 float");
