@@ -358,7 +358,7 @@ function showAnswers(who) {
     $("answers"),
     keeping.length > 0 && el("ul", { class: "answers" }, keeping.map((it) => el("li", {}, answerButton(who, it, about)))),
     keeping.length > 0 && about.isLast && ANSWER.last,
-    keeping.length > 0 && !about.isLast && hasFirst(who) && el("p", {}, el("strong", {}, ANSWER.first(about.seat))),
+    keeping.length > 0 && !about.isLast && hasFirst(who) && el("p", {}, el("strong", {}, ANSWER.first)),
     keeping.length > 0 && !about.isLast && details(ANSWER.details, ...keeping.flatMap((it) => [el("h3", {}, CHOICES[it].name), ...paragraphs(CHOICES[it].does(about), Infinity)]), el("p", {}, ANSWER.narrow(state.now))),
     closed.map((it) => el("p", { class: "hint" }, ANSWER.closed(it, CHOICES[left]?.name ?? left))),
     seat.programme && open.length > 0 && turns > 0 && el("p", { class: "hint" }, isFull ? ANSWER.full : ANSWER.used(turns)),
