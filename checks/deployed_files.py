@@ -360,6 +360,7 @@ def papers(room, program):
     tally.holds(status == 1 and "127.0.0.1:1" in wrote, "papers without an office", f"{status} {wrote}")
     followed(room, program, told)
     mocked(room, program)
+    specials(room, program)
 
 
 def cutoff_files(folder, has_cutoffs):
@@ -418,6 +419,19 @@ def mocked(room, program):
     tally.holds({"mock-lists.txt", "mock-institute-I0.txt", "mock-round.txt.gz"} <= set(there) and all(it.startswith("mock-") for it in there), "files of a mock round", f"{there[:8]}")
     all_of_it = "".join(text_of(f"{room}/mock/{it}") for it in there if not it.endswith(".gz"))
     tally.holds(not any(it in all_of_it for it in tokens_of(bundle)), "no token in the papers of a mock round")
+
+
+def specials(room: str, program: str) -> None:
+    """The papers of a special round, next to those of its season, and a text that is none."""
+    example = f"{os.path.dirname(os.path.dirname(os.path.realpath(__file__)))}/examples/vacant-seats"
+    words = ["--season", f"{example}/bundle.txt", "--special"]
+    status, wrote = script("papers", [*words, f"{example}/special-lists.txt", f"{room}/special"], program)
+    tally.holds(status == 0 and "special round" in wrote, "the papers of a special round", f"{status} {wrote}")
+    cutoffs = "programme,institute,step,traits,place\nC,I2,OPEN,-,1\nE,I3,OPEN,-,4\n"
+    tally.same(text_of(f"{room}/special/special-cutoffs.csv"), cutoffs, "the cutoffs of a special round")
+    tally.same(text_of(f"{room}/special/special-round.txt"), text_of(f"{example}/special.txt"), "the text of a special round")
+    status, wrote = script("papers", [*words, f"{example}/special.txt", f"{room}/special"], program)
+    tally.holds(status == 3 and "special lists" in wrote, "a special round without lists is refused", f"{status} {wrote}")
 
 
 def agree(folder, replies, bundle, lists):
