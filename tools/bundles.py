@@ -37,7 +37,7 @@ def office(words, given):
 def told(call, words, given):
     """Returns what a call of the office writes if it exits with status 0."""
     wrote, status = call(words, given)
-    if status:
+    if status != 0:
         raise Refused(wrote, status)
     return wrote
 

@@ -286,10 +286,8 @@ class Matrix:
         apart = sum(found.values())
         among = sum(count for it, count in found.items() if "PwD" not in it)
         if total is None:
-            if apart != among and not self.wide.get("apart"):
-                first = next(cells[it] for it, count in found.items() if "PwD" in it and count)
-                self.findings.doubts("PwD-seats", ASKS_APART, first)
-                self.wide.setdefault("asked", first)
+            if apart != among:
+                self.findings.doubts("PwD-seats", ASKS_APART, next(cells[it] for it, count in found.items() if "PwD" in it and count))
         elif total not in (apart, among):
             ways = f"{apart:,}" if apart == among else f"{apart:,}, or {among:,} without those for persons with disabilities"
             self.findings.wrong(cells["total"], f"the columns of this row add up to {ways}")

@@ -18,6 +18,8 @@ BOOKS = {b"PK\x03\x04": "a workbook", b"\xd0\xcf\x11\xe0": "an old workbook"}
 ENDINGS = (".csv", *books.LIBRARIES)
 # examples in a line of messages, and signs of a value that are shown
 EXAMPLES, SHOWN = 5, 60
+# rows in which values of columns without a name are looked for
+LOOKED = 1_000
 
 
 def letters(at: int) -> str:
@@ -195,6 +197,9 @@ class Table:
         """Returns the lines of the report on columns that were not read."""
         named = [self.header.names[at] for at in self.left_out]
         lines = [f"{self.file}: left out: {', '.join(named)}"] if named else []
+        unnamed = sorted({at for _, fields in self.rows[:LOOKED] for at, it in enumerate(fields) if it and not self.name(at) and at not in self.means.values()})
+        if unnamed and not self.is_by_words:
+            lines.append(f"{self.file}: left out, and without a name: {listed((f'column {letters(it)}' for it in unnamed), 'and')}")
         if any(re.fullmatch("gender|sex", it.lower()) for it in named):
             lines.append(f"{self.file}: the office reads no gender: {'seats for women are in the column W of their step' if self.has('seats') else 'women have the trait W in the column traits'}")
         return lines
