@@ -1,15 +1,16 @@
 // A plain Rust server of a season with the standard library, against which the command `serve` is measured.
 //
-//     plain_server WORKERS PORT BUNDLE ROUND STORE      STORE is `memory` or the name of a file
+//     plain_server WORKERS PORT BUNDLE ROUND STORE [grouped]      STORE is `memory` or the name of a file
 //
 // It has a thread for each clone of the listener, cuts heads by hand, and gives the same replies from the same arrays under a mutex.
 // It makes no round: it reads the first one from the office's own text.
 // It answers how far the office is, seats, and the answers of window 1. Over a file it keeps each answer, with a sync, before the reply.
+// With `grouped` one sync is for all who wait: an answer is appended, and its reply, or one that could have seen it, is written after a sync that began later.
 use std::collections::HashMap;
 use std::fs::{File, OpenOptions};
 use std::io::{Read, Write};
 use std::net::{Ipv4Addr, TcpListener, TcpStream};
-use std::sync::Mutex;
+use std::sync::{Arc, Condvar, Mutex};
 use std::time::Duration;
 
 const MOST_MESSAGES: u32 = 100;
@@ -28,10 +29,63 @@ struct Season {
     seats: Vec<Option<(usize, String)>>,
 }
 
-/// What was accepted of each candidate in window 1, by place: the choices of the turns from 1 on.
+/// What was accepted of each candidate in window 1, by place: the choices of the turns from 1 on. `appended` counts the lines of the log.
 struct Office {
     turns: Vec<Vec<usize>>,
-    log: Option<File>,
+    log: Option<Arc<File>>,
+    is_grouped: bool,
+    appended: u64,
+}
+
+/// How many lines of the log the disk has, and whether somebody syncs now.
+#[derive(Default)]
+struct Synced {
+    lines: u64,
+    is_syncing: bool,
+    has_failed: bool,
+}
+
+/// The syncs of a grouped server: the first who waits syncs for all whose lines are there by then.
+#[derive(Default)]
+struct Syncs {
+    synced: Mutex<Synced>,
+    ended: Condvar,
+}
+
+impl Syncs {
+    /// Returns once the disk has so many lines, and whether it has.
+    fn wait(&self, office: &Mutex<Office>, wanted: u64) -> bool {
+        let mut synced = self.synced.lock().unwrap();
+        while synced.lines < wanted && !synced.has_failed {
+            if synced.is_syncing {
+                synced = self.ended.wait(synced).unwrap();
+                continue;
+            }
+            synced.is_syncing = true;
+            drop(synced);
+            let (log, lines) = {
+                let office = office.lock().unwrap();
+                (office.log.clone(), office.appended)
+            };
+            let is_done = log.is_some_and(|log| log.sync_data().is_ok());
+            synced = self.synced.lock().unwrap();
+            synced.is_syncing = false;
+            if is_done {
+                synced.lines = lines;
+            } else {
+                synced.has_failed = true;
+            }
+            self.ended.notify_all();
+        }
+        synced.lines >= wanted
+    }
+}
+
+/// What all connections share.
+struct Shared {
+    season: Season,
+    office: Mutex<Office>,
+    syncs: Syncs,
 }
 
 fn sections(text: &str) -> HashMap<&str, Vec<&str>> {
@@ -161,13 +215,19 @@ fn answer(season: &Season, office: &mut Office, by: &By, cand: u32, window: u32,
     if turn > MOST_TURNS && choice != 3 {
         return refused(409, 12, "TooManyTurns", None);
     }
-    if let Some(log) = &mut office.log {
-        if writeln!(log, "{window},{cand},{turn},{choice}").and_then(|()| log.sync_data()).is_err() {
-            return (503, "{\"fault\":\"keeper\"}".to_string());
+    if let Some(log) = &office.log {
+        let line = format!("{window},{cand},{turn},{choice}\n");
+        if (&**log).write_all(line.as_bytes()).is_err() || (!office.is_grouped && log.sync_data().is_err()) {
+            return failed();
         }
+        office.appended += 1;
     }
     office.turns[place].push(choice);
     noted(cand, turn, choice)
+}
+
+fn failed() -> Reply {
+    (503, "{\"fault\":\"keeper\"}".to_string())
 }
 
 /// The number or the text of a key in a body of plain JSON, as the office's clients send it.
@@ -184,28 +244,48 @@ fn number(body: &str, key: &str) -> Option<u32> {
     member(body, key)?.parse().ok()
 }
 
-/// What a message comes to.
-fn asked(season: &Season, office: &Mutex<Office>, method: &str, path: &str, token: Option<&str>, body: &str) -> Reply {
+/// What a message comes to, once the disk has all that its reply may tell of.
+fn asked(shared: &Shared, method: &str, path: &str, token: Option<&str>, body: &str) -> Reply {
+    let (reply, seen) = answered(&shared.season, &shared.office, method, path, token, body);
+    if seen == 0 || shared.syncs.wait(&shared.office, seen) { reply } else { failed() }
+}
+
+/// The reply to a message, and how many lines of the log it may tell of and the disk may lack.
+fn answered(season: &Season, office: &Mutex<Office>, method: &str, path: &str, token: Option<&str>, body: &str) -> (Reply, u64) {
     let by = season.by(token);
+    let mut seen = 0;
+    let mut turn = || {
+        let held = office.lock().unwrap();
+        if held.is_grouped {
+            seen = held.appended;
+        }
+        held
+    };
     let pieces: Vec<&str> = path.split('?').next().unwrap_or("").split('/').collect();
-    match (method, &pieces[..]) {
+    let reply = match (method, &pieces[..]) {
         ("GET", ["", "v1", "state"]) => {
-            let _turn = office.lock().unwrap();
+            let _turn = turn();
             state(season)
         }
         ("GET", ["", "v1", "seat", cand]) => match cand.parse() {
-            Ok(cand) => seat(season, &office.lock().unwrap(), &by, cand),
+            Ok(cand) => seat(season, &turn(), &by, cand),
             Err(_) => (404, String::new()),
         },
         ("POST", ["", "v1", "answer"]) => {
             let choice = member(body, "choice").and_then(|name| CHOICES.iter().position(|it| *it == name));
             match (number(body, "cand"), number(body, "window"), number(body, "turn"), choice) {
-                (Some(cand), Some(window), Some(turn), Some(choice)) => answer(season, &mut office.lock().unwrap(), &by, cand, window, turn, choice),
+                (Some(cand), Some(window), Some(number), Some(choice)) => {
+                    let mut held = turn();
+                    let reply = answer(season, &mut held, &by, cand, window, number, choice);
+                    seen = if held.is_grouped { held.appended } else { 0 };
+                    reply
+                }
                 _ => (400, String::new()),
             }
         }
         _ => (404, String::new()),
-    }
+    };
+    (reply, seen)
 }
 
 fn phrase(status: u16) -> &'static str {
@@ -254,7 +334,7 @@ fn head_end(held: &[u8]) -> Option<usize> {
 }
 
 /// Answers the message that the held bytes begin with: how many bytes it took, and whether the connection ends. None where more is wanted.
-fn answer_held(season: &Season, office: &Mutex<Office>, held: &[u8], last: bool, out: &mut Vec<u8>) -> Option<(usize, bool)> {
+fn answer_held(shared: &Shared, held: &[u8], last: bool, out: &mut Vec<u8>) -> Option<(usize, bool)> {
     let Some(end) = head_end(held) else {
         if held.len() < MOST_HEAD {
             return None;
@@ -268,19 +348,19 @@ fn answer_held(season: &Season, office: &Mutex<Office>, held: &[u8], last: bool,
         return Some((held.len(), true));
     };
     let body = held.get(end + 4..end + 4 + length)?;
-    let reply = asked(season, office, method, path, token, std::str::from_utf8(body).unwrap_or(""));
+    let reply = asked(shared, method, path, token, std::str::from_utf8(body).unwrap_or(""));
     reply_bytes(out, &reply, closes || last);
     Some((end + 4 + length, closes || last))
 }
 
-fn talk(season: &Season, office: &Mutex<Office>, mut stream: TcpStream) -> std::io::Result<()> {
+fn talk(shared: &Shared, mut stream: TcpStream) -> std::io::Result<()> {
     stream.set_nodelay(true)?;
     stream.set_read_timeout(Some(Duration::from_secs(30)))?;
     stream.set_write_timeout(Some(Duration::from_secs(30)))?;
     let (mut held, mut len, mut out) = (vec![0; MOST_HEAD + MOST_BODY], 0, Vec::new());
     for at in 1..=MOST_MESSAGES {
         let (taken, ends) = loop {
-            if let Some(answered) = answer_held(season, office, &held[..len], at == MOST_MESSAGES, &mut out) {
+            if let Some(answered) = answer_held(shared, &held[..len], at == MOST_MESSAGES, &mut out) {
                 break answered;
             }
             match stream.read(&mut held[len..])? {
@@ -303,16 +383,18 @@ fn main() {
     let (workers, port): (usize, u16) = (words[1].parse().unwrap(), words[2].parse().unwrap());
     let text = |path: &str| std::fs::read_to_string(path).unwrap();
     let season = read_season(&text(&words[3]), &text(&words[4])).unwrap();
-    let log = (words[5] != "memory").then(|| OpenOptions::new().create(true).append(true).open(&words[5]).unwrap());
-    let office = Mutex::new(Office { turns: vec![Vec::new(); season.seats.len()], log });
+    let log = (words[5] != "memory").then(|| Arc::new(OpenOptions::new().create(true).append(true).open(&words[5]).unwrap()));
+    let is_grouped = log.is_some() && words.get(6).is_some_and(|it| it == "grouped");
+    let office = Mutex::new(Office { turns: vec![Vec::new(); season.seats.len()], log, is_grouped, appended: 0 });
+    let shared = Shared { season, office, syncs: Syncs::default() };
     let listener = TcpListener::bind((Ipv4Addr::LOCALHOST, port)).unwrap();
     std::thread::scope(|scope| {
         for _ in 0..workers {
             let listener = listener.try_clone().unwrap();
-            let (season, office) = (&season, &office);
+            let shared = &shared;
             scope.spawn(move || {
                 for stream in listener.incoming().flatten() {
-                    let _ = talk(season, office, stream);
+                    let _ = talk(shared, stream);
                 }
             });
         }
