@@ -1,8 +1,7 @@
 """Makes pages of the documents that candidates need, so that the office's site has them too.
 
 Only the Markdown that these documents use is read: headings, paragraphs, lists, tables, indented code, bold, emphasis, code and links. What looks like another
-form stops the build, so that nothing is shown as a raw sign. A library would be read in place of this if the machines that build the pages had one: they have Python
-alone."""
+form stops the build, so that nothing is shown as a raw sign. The machines that build the pages have Python and no library for Markdown, so this is done here."""
 import html
 import os
 import re
