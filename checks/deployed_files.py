@@ -385,7 +385,7 @@ def followed(room, program, told):
         try:
             until(lambda: os.path.exists(f"{folder}/programmes.json"), "the papers before the first cut")
             there = sorted(it for it in os.listdir(folder) if not it.endswith(".gz"))
-            tally.same(there, ["index.html", "names.json", "notice.txt", "programmes.json", "window.json"], "papers before the first cut")
+            tally.same(there, ["help.json", "index.html", "names.json", "notice.txt", "programmes.json", "window.json"], "papers before the first cut")
             tally.holds("No round is published yet" in text_of(f"{folder}/index.html"), "the index before the first cut")
             directly(office, "POST", "/v1/cut", CLERK, CUT)
             until(lambda: '"published": 1' in text_of(f"{folder}/programmes.json"), "the papers after a cut")
@@ -462,12 +462,17 @@ def announced(room, program):
     told = json.loads(text_of(f"{room}/window.json"))
     tally.holds(status == 0 and told["window"] == 1 and datetime.datetime.fromisoformat(told["closes"]).tzinfo, "the end of a window", f"{status} {wrote}")
     with open(f"{room}/names.csv", "w", encoding="utf-8") as it:
-        it.write("programme,A,Computer Science\n\ninstitute,I1,\"Indian Institute, Roorkee\"\nprogramme,B,भौतिकी\nboard,,The Board\n")
+        it.write("programme,A,Computer Science\n\ninstitute,I1,\"Indian Institute, Roorkee\"\nprogramme,B,भौतिकी\nboard,,The Board\nshort,A,\"CSE, Roorkee\"\nlist,1,JEE (Advanced)\n")
     status, wrote = script("announce", [room, "names", f"{room}/names.csv"], program)
     wanted = {"programmes": {"A": "Computer Science", "B": "भौतिकी"}, "institutes": {"I1": "Indian Institute, Roorkee"}, "board": "The Board"}
+    wanted |= {"short": {"A": "CSE, Roorkee"}, "lists": {"1": "JEE (Advanced)"}}
     tally.holds(status == 0 and json.loads(text_of(f"{room}/names.json")) == wanted, "names of codes", f"{status} {wrote}")
+    status, wrote = script("announce", [room, "help", "mailto:help@board.example", "Call 011", "011 पर फ़ोन करें"], program)
+    wanted = {"text": "Call 011", "hi": "011 पर फ़ोन करें", "url": "mailto:help@board.example"}
+    tally.holds(status == 0 and json.loads(text_of(f"{room}/help.json")) == wanted, "whom candidates ask", f"{status} {wrote}")
     before = {it: text_of(f"{room}/{it}") for it in os.listdir(room)}
     for label, words in [
+        ("an address that a browser runs", ["help", "javascript:alert(1)", "Call"]),
         ("a time without a zone", ["window", "1", "2999-01-01T10:00"]),
         ("a time that is past", ["window", "1", "2020-01-01T10:00+05:30"]),
         ("no time", ["window", "1", "tomorrow"]),
