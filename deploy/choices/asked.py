@@ -2,12 +2,13 @@
 import asyncio
 import re
 import sys
+import time
 from typing import Awaitable, Callable, NamedTuple, Optional
 from urllib.parse import parse_qsl
 
 MOST_HEAD, MOST_BODY, MOST_LINKS = 8_192, 65_536, 2_048
-# seconds for one request to come, and for the next one on a connection that nginx keeps
-COMING, KEPT = 15, 75
+# seconds after which a connection on which nothing was answered ends; nginx keeps one for 60
+SILENT = 75
 FIRST = re.compile(rb"([A-Z]{1,16}) (/[!-~]{0,2047}) HTTP/1\.([01])")
 NAMES = {
     200: "OK", 303: "See Other", 400: "Bad Request", 403: "Forbidden", 404: "Not Found", 405: "Method Not Allowed", 409: "Conflict",
@@ -84,10 +85,10 @@ def form_of(fields: dict, body: bytes) -> dict:
 async def next_request(reader: asyncio.StreamReader) -> Optional[tuple]:
     """Returns the next request of a connection and whether the connection may stay, or None if it ended."""
     try:
-        head = await asyncio.wait_for(reader.readuntil(b"\r\n\r\n"), KEPT)
+        head = await reader.readuntil(b"\r\n\r\n")
     except asyncio.LimitOverrunError:
         raise Malformed(431) from None
-    except (asyncio.IncompleteReadError, asyncio.TimeoutError):
+    except asyncio.IncompleteReadError:
         return None
     if len(head) > MOST_HEAD:
         raise Malformed(431)
@@ -98,30 +99,41 @@ async def next_request(reader: asyncio.StreamReader) -> Optional[tuple]:
     if int(length) > MOST_BODY:
         raise Malformed(413)
     try:
-        body = await asyncio.wait_for(reader.readexactly(int(length)), COMING) if int(length) else b""
-    except (asyncio.IncompleteReadError, asyncio.TimeoutError):
+        body = await reader.readexactly(int(length)) if length != "0" else b""
+    except asyncio.IncompleteReadError:
         return None
     path, _, query = path.partition("?")
     return Request(method, path, query, fields, form_of(fields, body)), stays
 
 
 class Server:
-    """Answers the requests of all connections by one function."""
+    """Answers the requests of all connections by one function. A connection ends when nothing was answered on it for a while."""
 
     def __init__(self, answer: Callable[[Request], Awaitable[Reply]]) -> None:
-        self.answer, self.links = answer, 0
+        self.answer = answer
+        self.links: dict = {}
+
+    async def sweep(self) -> None:
+        """Ends connections on which nothing was answered for a while, again and again."""
+        while True:
+            await asyncio.sleep(5)
+            for writer, since in [*self.links.items()]:
+                if time.monotonic() - since > SILENT:
+                    writer.transport.abort()
 
     async def speak(self, reader: asyncio.StreamReader, writer: asyncio.StreamWriter) -> None:
         """Answers one connection, request by request."""
-        self.links += 1
+        if len(self.links) >= MOST_LINKS:
+            writer.transport.abort()
+            return
         try:
-            if self.links <= MOST_LINKS:
-                while await self.one(reader, writer):
-                    pass
-        except (OSError, asyncio.TimeoutError):
+            self.links[writer] = time.monotonic()
+            while await self.one(reader, writer):
+                self.links[writer] = time.monotonic()
+        except OSError:
             pass
         finally:
-            self.links -= 1
+            del self.links[writer]
             writer.close()
 
     async def one(self, reader: asyncio.StreamReader, writer: asyncio.StreamWriter) -> bool:
@@ -131,16 +143,16 @@ class Server:
         except Malformed as why:
             status = why.args[0]
             writer.write(plain(status, NAMES[status]).encoded(True, False))
-            await asyncio.wait_for(writer.drain(), COMING)
+            await writer.drain()
             return False
         if came is None:
             return False
         asked, stays = came
         try:
             reply = await self.answer(asked)
-        except Exception as why:  # noqa: BLE001 - one request must not end the service; its content is not written
+        except Exception as why:  # one request must not end the service; what was asked is not written
             print(f"choices: {asked.method} failed: {type(why).__name__}", file=sys.stderr, flush=True)
-            reply = plain(500, "the service failed at this request; nothing was kept")
+            reply = plain(500, "the service failed at this request: look at your receipts")
         writer.write(reply.encoded(not stays, asked.method == "HEAD"))
-        await asyncio.wait_for(writer.drain(), COMING)
+        await writer.drain()
         return stays

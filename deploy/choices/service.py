@@ -2,6 +2,7 @@
 import asyncio
 import os
 import re
+import sys
 from typing import Optional
 
 import visits
@@ -211,6 +212,8 @@ class Service:
 
 async def serve(store: str, socket: str, port: int, papers: str, web: str, together: int) -> None:
     """Serves until it is ended, at a socket in a folder or at a port of 127.0.0.1."""
+    # the thread that writes is not kept waiting by one that computes
+    sys.setswitchinterval(0.0005)
     service = Service(store, papers, web, together)
     server = Server(service.answer)
     if port:
@@ -222,4 +225,4 @@ async def serve(store: str, socket: str, port: int, papers: str, web: str, toget
         os.chmod(socket, 0o660)
     print("choices: serving", flush=True)
     async with listening:
-        await listening.serve_forever()
+        await asyncio.gather(listening.serve_forever(), server.sweep())

@@ -1,0 +1,377 @@
+"""What a candidate may do with a list, and what nobody may: the service of deploy/choices asked as a browser without a script asks it."""
+import csv
+import glob
+import http.client
+import json
+import os
+import re
+import resource
+import sqlite3
+import string
+import subprocess
+import sys
+import tempfile
+from typing import NamedTuple, Optional
+from urllib.parse import urlencode
+
+from cases import ROOMS
+from choices_load import Service, called
+from served import TOP, free_port
+
+sys.path.insert(0, f"{TOP}/deploy/choices")
+import season_file
+import store
+
+TOKENS = {101: "k3jf9s0d2mq8", 102: "p0w7x1z5vbn4", 103: "t6y2u8i4o0re", 104: "a9s8d7f6g5h4"}
+BUNDLE = f"""office units 1
+[units]
+N,KA
+[states]
+101,KA
+102,TN
+office bundle 1
+[season]
+rounds,2
+clerk,clerk0001xyz
+[register]
+id,category,traits,token,m1,m2,m3,m4
+101,GEN,-,{TOKENS[101]},2,7
+102,OBC,WD,{TOKENS[102]},1R
+103,GEN,-,{TOKENS[103]},3
+104,SC,-,{TOKENS[104]}
+[matrix]
+programme,institute,list,step,seats,W,D,X,S,F,L
+A,I1,1,OPEN,1
+B,I2,1,OPEN,1
+C,I2,2,OPEN,1
+N-HS,I3,1,OPEN,1
+N-OS,I3,2,OPEN,1
+[choices]
+candidate,programmes
+103,B,A
+"""
+NUMBERS = "candidate,token,number,application_number,name\nclerk,x\n" + "".join(f"{it},{token},{it},2603100000{it},Name {it}\n" for it, token in TOKENS.items() if it != 104)
+
+
+class Reply(NamedTuple):
+    """A reply: its status, its fields, and its text."""
+
+    status: int
+    fields: dict
+    text: str
+
+    def draft(self) -> str:
+        """Returns the list that the page shows."""
+        found = re.search(r'name="list" value="([^"]*)"', self.text)
+        return found[1] if found else ""
+
+    def receipt(self) -> Optional[int]:
+        """Returns the number of the receipt."""
+        found = re.fullmatch(r"(?:receipt|report) (\d+)(?: .*)?\n", self.text)
+        return int(found[1]) if found else None
+
+
+class Browser:
+    """A browser without a script: it keeps its cookie, and sends forms."""
+
+    def __init__(self, port: int) -> None:
+        self.port, self.cookie, self.form = port, "", ""
+
+    def ask(self, method: str, path: str, form: Optional[dict] = None, fields: Optional[dict] = None) -> Reply:
+        """Returns the reply to a request."""
+        link = http.client.HTTPConnection("127.0.0.1", self.port, timeout=60)
+        body = None if form is None else urlencode(form)
+        known = {"Cookie": self.cookie} if self.cookie else {}
+        known |= {"Content-Type": "application/x-www-form-urlencoded"} if form is not None else {}
+        link.request(method, path, body, {**known, **(fields or {})})
+        got = link.getresponse()
+        reply = Reply(got.status, {name.lower(): value for name, value in got.getheaders()}, got.read().decode())
+        link.close()
+        if "set-cookie" in reply.fields:
+            self.cookie = reply.fields["set-cookie"].split(";")[0]
+        found = re.search(r'name="form" value="([0-9a-f]{32})"', reply.text)
+        self.form = found[1] if found else self.form
+        return reply
+
+    def enter(self, number, token: str, **more) -> Reply:
+        """Signs in, and looks at the page."""
+        reply = self.ask("POST", "/choices/enter", {"number": number, "token": token, **more})
+        if reply.status == 303:
+            self.ask("GET", reply.fields["location"])
+        return reply
+
+    def send(self, word: str, **form) -> Reply:
+        """Sends a form of the page."""
+        return self.ask("POST", f"/choices/{word}", {"form": self.form, **form})
+
+    def save(self, codes: str) -> Reply:
+        """Saves a list."""
+        return self.send("list", list=codes, do="save")
+
+
+class PortService(Service):
+    """The service at a port."""
+
+    def __init__(self, room: str, **how) -> None:
+        self.port = free_port()
+        super().__init__(room, "--port", str(self.port), **how)
+
+
+def begun(room: str, numbers: bool = True) -> None:
+    """Makes the store of a small season in a folder."""
+    os.makedirs(f"{room}/season", exist_ok=True)
+    with open(f"{room}/tokens.csv", "w", encoding="utf-8") as it:
+        it.write(NUMBERS)
+    called("begin", f"{room}/choices.db", *(["--tokens", f"{room}/tokens.csv"] if numbers else []), given=BUNDLE)
+
+
+# ---- signing in
+
+
+def signing_in(tally, room: str, port: int) -> None:
+    """Looks at who is let in."""
+    who = Browser(port)
+    for number, token, wanted, label in (
+        (101, TOKENS[101], 403, "the office's number where the board has one of its own"),
+        ("2603100000101", TOKENS[102], 403, "another one's token"),
+        ("2603100000999", TOKENS[101], 403, "an unknown number"),
+        ("", "", 403, "nothing"),
+        ("2603100000101", f" {TOKENS[101][:6]}- {TOKENS[101][6:]} ", 303, "a token with blanks"),
+        (104, TOKENS[104], 303, "a candidate without a number of the board"),
+    ):
+        tally.same(Browser(port).enter(number, token).status, wanted, f"sign in: {label}")
+    came = who.enter("2603100000101", TOKENS[101])
+    tally.holds(all(it in came.fields["set-cookie"] for it in ("__Host-", "Secure", "HttpOnly", "SameSite=Strict", "Path=/")), "the cookie", came.fields["set-cookie"])
+    page = who.ask("GET", "/choices/")
+    tally.holds("2603100000101" in page.text and "Name 101" in page.text and TOKENS[101] not in page.text, "the entry of the register is there, and no token")
+    forged = who.cookie.replace("=101.", "=102.")
+    tally.holds('name="token"' in Browser(port).ask("GET", "/choices/", fields={"Cookie": forged}).text, "another number in the cookie signs in nobody")
+    kept = who.cookie
+    tally.same(who.send("leave").status, 200, "sign out")
+    tally.holds('name="token"' in Browser(port).ask("GET", "/choices/", fields={"Cookie": kept}).text, "a cookie from before the sign-out signs in nobody")
+
+
+def own_list(tally, room: str, port: int) -> None:
+    """Looks at what a candidate may list, and at drafts and receipts."""
+    first, second = Browser(port), Browser(port)
+    first.enter("2603100000101", TOKENS[101])
+    second.enter("2603100000102", TOKENS[102])
+    offered = lambda who: set(re.findall(r'value="add ([^"]+)"', who.ask("GET", "/choices/").text))
+    tally.same(offered(first), {"A", "B", "C", "N"}, "who has places in lists 1 and 2 is offered all")
+    tally.same(offered(second), {"A", "B"}, "who has no place in list 2 is not offered C, and not N from another state")
+    for codes, status, label in (("A", 303, "one"), ("", 303, "an empty list"), ("C", 409, "a programme without a place"), ("A B A", 409, "one twice"), ("A N-HS", 409, "a unit"), ("X", 409, "an unknown code")):
+        tally.same(second.save(codes).status, status, f"a list of {label}")
+    tally.same(second.save(" ".join(f"A{it}" for it in range(1001))).status, 409, "a list of 1,001")
+    came = first.save("B N A")
+    tally.same(first.save("B N A").receipt(), came.receipt(), "the same list again has the same receipt")
+    page = first.ask("GET", came.fields["location"])
+    tally.holds("Your list is saved." in page.text and store.digest_of("2603100000101,B,N,A") in page.text, "the page has the receipt")
+    for do, wanted in (("up A", "B A N"), ("down B", "N B A"), ("top A", "A B N"), ("out N", "B A"), ("add C", "B N A C"), ("add A", "B N A"), ("up B", "B N A"), ("nonsense", "B N A")):
+        came = first.send("list", list="B N A", do=do)
+        tally.same((came.status, came.draft()), (200, wanted), f"the button {do}")
+    came = first.send("list", list="B", do="take", codes="A,\r\nB\r\n C")
+    tally.same(came.draft(), "A B C", "codes that are pasted")
+    tally.same(first.ask("GET", "/choices/").draft(), "B N A", "a draft is not saved by itself")
+    came = first.send("list", list="", do="find", find="i2")
+    tally.same(set(re.findall(r'value="add ([^"]+)"', came.text)), {"B", "C"}, "programmes of an institute are found")
+
+
+def locking(tally, room: str, port: int) -> None:
+    """Looks at locking, at unlocking by the clerk, and at reports."""
+    who = Browser(port)
+    who.enter("2603100000101", TOKENS[101])
+    receipt = who.save("A B").receipt()
+    tally.same(who.send("lock", receipt=receipt).status, 409, "locking without the box")
+    tally.same(who.send("lock", receipt=receipt - 1, sure="yes").status, 409, "locking an older list")
+    tally.same(who.send("lock", receipt=receipt, sure="yes").status, 303, "locking")
+    tally.same(who.save("B").status, 409, "saving a locked list")
+    tally.holds("locked" in who.ask("GET", "/choices/").text and 'id="editor"' not in who.ask("GET", "/choices/").text, "the page of a locked list has no editor")
+    called("unlock", f"{room}/choices.db", "2603100000101")
+    called("unlock", f"{room}/choices.db", "2603100000101", status=3)
+    tally.same(who.save("B").status, 303, "saving after the clerk unlocked the list")
+    tally.same(who.send("report", text="  ").status, 409, "an empty report")
+    tally.same(who.send("report", text="x" * 1001).status, 409, "a long report")
+    came = who.send("report", text="=my place is 1 & <b>not</b> 2")
+    tally.same((came.status, who.send("report", text="=my place is 1 & <b>not</b> 2").receipt()), (303, came.receipt()), "a report, twice")
+    tally.holds("&lt;b&gt;not" in who.ask("GET", "/choices/").text, "a report is shown as text")
+
+
+def foreign(tally, room: str, port: int) -> None:
+    """Looks at what nobody may send."""
+    who, other = Browser(port), Browser(port)
+    who.enter("2603100000101", TOKENS[101])
+    other.enter("2603100000102", TOKENS[102])
+    before = called("state", f"{room}/choices.db")
+    for form, label in (("", "no token of the form"), ("0" * 32, "a wrong one"), (other.form, "another visit's"), ("é", "one that is no ASCII")):
+        came = who.ask("POST", "/choices/list", {"form": form, "list": "A", "do": "save"})
+        tally.same((came.status, came.draft()), (403, "A"), f"a list with {label} is refused, and stays on the page")
+    for site in ("cross-site", "same-site"):
+        tally.same(who.ask("POST", "/choices/list", {"form": who.form, "list": "A", "do": "save"}, {"Sec-Fetch-Site": site}).status, 403, f"a form from {site}")
+    gone = Browser(port).ask("POST", "/choices/list", {"form": who.form, "list": "A B", "do": "save"})
+    tally.same((gone.status, gone.draft()), (403, "A B"), "a list after the visit is over goes along to the sign-in")
+    again = Browser(port)
+    came = again.enter("2603100000101", TOKENS[101], list="A B")
+    tally.same((came.status, came.draft()), (200, "A B"), "and is there after it")
+    tally.same(called("state", f"{room}/choices.db"), before, "nothing of this was kept")
+    malformed(tally, who)
+
+
+def malformed(tally, who: Browser) -> None:
+    """Looks at requests that are none."""
+    big = {"form": who.form, "list": "A" * 70_000}
+    tally.same(who.ask("POST", "/choices/list", big).status, 413, "a body above the limit")
+    tally.same(who.ask("POST", "/choices/list", {}, {"Content-Type": "text/plain"}).status, 403, "an empty body")
+    tally.same(who.ask("POST", "/choices/list", {"a": "b"}, {"Content-Type": "multipart/form-data"}).status, 400, "a body of another type")
+    tally.same(who.ask("GET", "/choices/", fields={"X-Long": "a" * 9_000}).status, 431, "a long head")
+    tally.same(who.ask("GET", "/choices/", fields={"Transfer-Encoding": "chunked"}).status, 400, "a body in chunks")
+    for method, path, status in (("GET", "/choices/nothing", 404), ("GET", "/", 404), ("PUT", "/choices/", 405), ("DELETE", "/choices/list", 405), ("GET", "/choices/list", 303), ("HEAD", "/choices/", 200)):
+        tally.same(who.ask(method, path).status, status, f"{method} {path}")
+
+
+def papers(tally, room: str, port: int) -> None:
+    """Looks at names and the mock round."""
+    who = Browser(port)
+    who.enter("2603100000101", TOKENS[101])
+    who.save("A B N")
+    tally.holds('id="mock"' not in who.ask("GET", "/choices/").text, "there is no mock round before one is published")
+    with open(f"{room}/season/names.json", "w", encoding="utf-8") as it:
+        json.dump({"programmes": {"N": "Civil <i>Engineering</i>"}, "institutes": {"I3": "NIT Goa"}}, it)
+    with open(f"{room}/season/mock-round.txt", "w", encoding="utf-8") as it:
+        it.write("round 1 seated 1\nallot 101 N-HS OPEN\nend round\n")
+    other = PortService(room)
+    with other:
+        who.port = other.port
+        page = who.ask("GET", "/choices/hi/").text
+        tally.holds("Civil &lt;i&gt;Engineering&lt;/i&gt;, NIT Goa (N)" in page, "names are shown as text")
+        tally.holds('lang="hi"' in page and "आपकी पसंद 3" in page and "/season/mock-round.txt" in page, "the seat of the mock round, in Hindi")
+
+
+# ---- the clerk
+
+
+def closing(tally, room: str, port: int) -> None:
+    """Looks at what the clerk gets."""
+    who, folder = Browser(port), f"{room}/lists"
+    who.enter("2603100000101", TOKENS[101])
+    who.save("N B")
+    called("write", f"{room}/choices.db", folder)
+    tally.same(who.save("B N").status, 303, "writing the lists closes nothing")
+    called("announce", f"{room}/choices.db", "2026-01-01T10:00+05:30", status=3)
+    called("announce", f"{room}/choices.db", "2090-06-20T17:00+05:30")
+    tally.holds("20-06-2090 17:00 IST" in who.ask("GET", "/choices/").text, "the announced hour")
+    called("close", f"{room}/choices.db", folder)
+    tally.same((who.save("A").status, who.ask("GET", "/choices/").draft()), (409, ""), "nothing is saved after the clerk closed")
+    read = lambda name: open(f"{folder}/{name}", encoding="utf-8").read()
+    wide = "candidate,programmes\n2603100000101,B,N\n2603100000103,B,A\n"
+    tally.same(read("choices.csv"), wide, "choices.csv")
+    tally.same(read("choices.txt"), "[choices]\n" + wide.replace("2603100000", ""), "choices.txt")
+    tally.holds(",\"'=my place" in read("reports.csv").replace(",'=my", ",\"'=my"), "a report is no formula")
+    tally.same(os.stat(f"{folder}/choices.csv").st_mode & 0o777, 0o600, "the clerk's files are the owner's alone")
+    before = read("choices.csv"), read("receipts.csv")
+    called("close", f"{room}/choices.db", folder)
+    tally.same((read("choices.csv"), read("receipts.csv")), before, "closing again writes the same")
+
+
+PARTS = (signing_in, own_list, foreign, locking, papers, closing)
+
+
+def secrets_kept(tally, room: str) -> None:
+    """Looks for tokens where none may be, and at how the store syncs."""
+    held = b"".join(open(it, "rb").read() for it in glob.glob(f"{room}/choices.db*") + glob.glob(f"{room}/service.log") + glob.glob(f"{room}/lists/*"))
+    tally.same([it for it in TOKENS.values() if it.encode() in held], [], "no token is in the store, the log or the clerk's files")
+    tally.same(os.stat(f"{room}/choices.db").st_mode & 0o777, 0o600, "the store is its owner's alone")
+    kept = store.Store(f"{room}/choices.db").base
+    ((sync,), (log,)) = kept.execute("PRAGMA synchronous").fetchall() + kept.execute("PRAGMA journal_mode").fetchall()
+    tally.same((sync, log), (2, "wal"), "each transaction is synced")
+
+
+def rules(tally) -> None:
+    """Tries all parts over one service, one after another."""
+    with tempfile.TemporaryDirectory(prefix="choices-", dir=ROOMS) as room:
+        begun(room)
+        with PortService(room) as service:
+            for part in PARTS:
+                part(tally, room, service.port)
+        secrets_kept(tally, room)
+
+
+def full_disk(tally) -> None:
+    """Looks at a service whose disk takes no more: it gives no receipt, and keeps what it gave."""
+    with tempfile.TemporaryDirectory(prefix="choices-", dir=ROOMS) as room:
+        begun(room, numbers=False)
+        with PortService(room, preexec_fn=lambda: resource.setrlimit(resource.RLIMIT_FSIZE, (80_000, 80_000))) as service:
+            who, kept = Browser(service.port), []
+            who.enter(101, TOKENS[101])
+            for turn in range(200):
+                codes = ("A", "B", "A B", "B A")[turn % 4]
+                came = who.save(codes)
+                if came.status != 303:
+                    break
+                kept.append((str(came.receipt()), codes))
+            tally.same((came.status, came.draft(), "NOT saved" in came.text), (503, codes, True), "a full disk is said, and the list stays on the page")
+            tally.same(who.ask("GET", "/choices/").status, 200, "the service goes on")
+        called("write", f"{room}/choices.db", f"{room}/lists")
+        with open(f"{room}/lists/receipts.csv", encoding="utf-8") as it:
+            rows = [(row[0], row[5]) for row in csv.reader(it) if row[1] == "101"]
+        tally.same(rows, kept, "all that had a receipt is there, and nothing else")
+
+
+def beginning(tally) -> None:
+    """Looks at inputs of `begin` that are none, and at a store that is damaged."""
+    with tempfile.TemporaryDirectory(prefix="choices-", dir=ROOMS) as room:
+        path = f"{room}/choices.db"
+        for given, label in (("", "nothing"), ("office bundle 1\n[register]\n", "a part of a bundle"), (BUNDLE.replace("101,GEN,-", "0,GEN,-"), "a wrong number"), (BUNDLE.replace(TOKENS[101], "short"), "a wrong token")):
+            called("begin", path, given=given, status=3)
+            tally.holds(not os.path.exists(path), f"begin with {label} makes no store")
+        called("begin", path, given=BUNDLE)
+        called("begin", path, given=BUNDLE, status=3)
+        tally.same(called("state", path).splitlines()[0], "candidates 4 lists 1 empty 0 locked 0", "begin with lists of the bundle")
+        base = sqlite3.connect(path)
+        base.execute("UPDATE entry SET codes = 'A B'")
+        base.commit()
+        base.close()
+        tally.holds("damaged" in called("write", path, f"{room}/lists", status=3), "a list that is not that of its receipt is reported")
+
+
+def words_agree(tally) -> None:
+    """Looks whether both languages have the same sentences with the same places for values."""
+    both = []
+    for language in ("en", "hi"):
+        with open(f"{TOP}/deploy/choices/words.{language}.json", encoding="utf-8") as it:
+            both.append({name: {field for _, field, _, _ in string.Formatter().parse(text) if field} for name, text in json.load(it).items()})
+    tally.same(both[1], both[0], "the words of both languages")
+    code = "".join(open(f"{TOP}/deploy/choices/{it}.py", encoding="utf-8").read() for it in ("pages", "service", "papers_read", "store"))
+    tally.same([it for it in both[0] if not re.search(rf"[\"']{it}[\"']", code) and it != "language"], [], "words that nothing uses")
+
+
+def chain(tally) -> None:
+    """Looks whether tools/season takes choices.csv, and makes the section of choices.txt of it."""
+    with tempfile.TemporaryDirectory(prefix="choices-", dir=ROOMS) as room:
+        sheets = {
+            "season.csv": "rounds,2\n",
+            "register.csv": "id,category,traits,m1\n101,GEN,,1\n102,OBC,,2\n103,GEN,W,3\n",
+            "matrix.csv": "programme,institute,list,step,seats\nCSE,I1,1,OPEN,2\nME,I1,1,OPEN,1\n",
+            "choices.csv": "candidate,programmes\n",
+        }
+        for name, text in sheets.items():
+            with open(f"{room}/{name}", "w", encoding="utf-8") as it:
+                it.write(text)
+        bundle = seasoned(room)
+        tokens = {it.number: it.token for it in season_file.season_of(bundle).candidates}
+        called("begin", f"{room}/choices.db", "--tokens", f"{room}/tokens.csv", given=bundle)
+        with PortService(room) as service:
+            for number, codes in ((101, "CSE"), (102, "ME CSE"), (103, "CSE ME")):
+                who = Browser(service.port)
+                who.enter(number, tokens[number])
+                tally.same(who.save(codes).status, 303, f"the list of {number}")
+            called("close", f"{room}/choices.db", room)
+        with open(f"{room}/choices.txt", encoding="utf-8") as it:
+            tally.same(seasoned(room), bundle.partition("[choices]")[0] + it.read(), "the bundle with the lists of the web")
+
+
+def seasoned(folder: str) -> str:
+    """Returns the bundle that tools/season makes of a folder."""
+    return subprocess.run([f"{TOP}/tools/season", folder], stdout=subprocess.PIPE, stderr=subprocess.DEVNULL, check=True).stdout.decode()
+
+
+ALL = (words_agree, beginning, rules, full_disk, chain)
