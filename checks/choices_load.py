@@ -91,7 +91,7 @@ class Candidates:
         self.left: Iterator = iter(tokens)
         # of each candidate the lists that were sent, with the receipt of those that were told to be kept
         self.sent: dict = {it: [] for it in tokens}
-        self.done, self.broken, self.slowest = 0, 0, 0.0
+        self.done, self.broken, self.slowest, self.is_over = 0, 0, 0.0, False
 
     def lists(self, number: int) -> list:
         """Returns the lists that a candidate saves, one after another."""
@@ -106,6 +106,8 @@ class Candidates:
         """Is one candidate after another, over a connection that is made again where it breaks."""
         link: Optional[Link] = None
         for number in self.left:
+            if self.is_over:
+                return
             wanted = self.lists(number)
             while wanted:
                 try:
@@ -163,26 +165,29 @@ def faults(folder: str, sent: dict) -> list:
     return found
 
 
-async def killed(service: Service, candidates: Candidates, kills: int, at_a_time: int) -> None:
-    """Lets all candidates come, and kills the service so often meanwhile."""
+async def killed(service: Service, candidates: Candidates, kills: int, at_a_time: int, seconds: float) -> None:
+    """Lets all candidates come, or as many as come within the time, and kills the service so often meanwhile."""
+    began, all_of = time.monotonic(), len(candidates.tokens)
     crowd = asyncio.create_task(candidates.at_a_time(at_a_time))
     for turn in range(1, kills + 1):
-        until = len(candidates.tokens) * turn // (kills + 1)
-        while candidates.done < until and not crowd.done():
+        while max(candidates.done / all_of, (time.monotonic() - began) / seconds) < turn / (kills + 1) and not crowd.done():
             await asyncio.sleep(0.01)
         service.kill()
         await asyncio.to_thread(service.start)
+    while not crowd.done():
+        candidates.is_over |= time.monotonic() - began > seconds
+        await asyncio.sleep(0.05)
     await crowd
 
 
-def tried(room: str, count: int, kills: int, at_a_time: int, together: int) -> str:
+def tried(room: str, count: int, kills: int, at_a_time: int, together: int, seconds: float) -> str:
     """Runs the load, and returns its figures. A fault is raised."""
     given, tokens = bundle(count)
     called("begin", f"{room}/choices.db", given=given)
     candidates = Candidates(f"{room}/choices.sock", tokens, 1)
     with Service(room, "--together", str(together)) as service:
         began = time.monotonic()
-        asyncio.run(killed(service, candidates, kills, at_a_time))
+        asyncio.run(killed(service, candidates, kills, at_a_time, seconds))
         took = time.monotonic() - began
         # the clerk closes while the service runs
         called("close", f"{room}/choices.db", f"{room}/lists")
@@ -193,6 +198,6 @@ def tried(room: str, count: int, kills: int, at_a_time: int, together: int) -> s
         raise Wrong(f"{len(found)} faults, the first: {found[0]}")
     size = os.path.getsize(f"{room}/choices.db") >> 20
     return (
-        f"{count} candidates, {at_a_time} at a time, {kills} kills: {receipts} receipts in {took:.0f} seconds ({receipts / took:.0f} a second), slowest save {candidates.slowest:.1f} seconds; "
+        f"{count} candidates, {at_a_time} at a time, {kills} kills: {candidates.done} came, {receipts} receipts in {took:.0f} seconds ({receipts / took:.0f} a second), slowest save {candidates.slowest:.1f} seconds; "
         f"{candidates.broken} connections broke, {lost} saves had no reply and were sent again; all receipts are in the clerk's files; the store has {size} MiB"
     )

@@ -333,12 +333,17 @@ def beginning(tally) -> None:
         tally.holds("damaged" in called("write", path, f"{room}/lists", status=3), "a list that is not that of its receipt is reported")
 
 
+def places_of(text) -> set:
+    """Returns the names of the values of a sentence, or the names of several words."""
+    return set(text) if isinstance(text, dict) else {field for _, field, _, _ in string.Formatter().parse(text) if field}
+
+
 def words_agree(tally) -> None:
     """Looks whether both languages have the same sentences with the same places for values."""
     both = []
     for language in ("en", "hi"):
         with open(f"{TOP}/deploy/choices/words.{language}.json", encoding="utf-8") as it:
-            both.append({name: {field for _, field, _, _ in string.Formatter().parse(text) if field} for name, text in json.load(it).items()})
+            both.append({name: places_of(text) for name, text in json.load(it).items()})
     tally.same(both[1], both[0], "the words of both languages")
     code = "".join(open(f"{TOP}/deploy/choices/{it}.py", encoding="utf-8").read() for it in ("pages", "service", "papers_read", "store"))
     tally.same([it for it in both[0] if not re.search(rf"[\"']{it}[\"']", code) and it != "language"], [], "words that nothing uses")

@@ -205,13 +205,13 @@ class Pages:
         """Returns the table of receipts, the newest first."""
         if not entries:
             return ""
-        head = "".join(f"<th>{self.w(it)}</th>" for it in ("receiptNumber", "receiptTime", "receiptKind", "receiptCount", "receiptDigest"))
-        rows = "".join(
-            f"<tr><td>{it.receipt}</td><td>{clock(it.at)}</td><td>{self.w(KINDS[it.kind])}</td><td>{len(it.codes)}</td><td><code>{it.digest}</code></td></tr>" for it in entries
-        )
+        names = [self.w(it) for it in ("receiptNumber", "receiptTime", "receiptKind", "receiptCount", "receiptDigest")]
+        head = "".join(f"<th>{it}</th>" for it in names)
+        cells = [(str(it.receipt), clock(it.at), self.w(KINDS[it.kind]), str(len(it.codes)), f"<code>{it.digest}</code>") for it in entries]
+        rows = "".join(f"<tr>{''.join(f'<td data-column={chr(34)}{name}{chr(34)}>{it}</td>' for name, it in zip(names, row))}</tr>" for row in cells)
         return (
             f'<section id="receipts" aria-labelledby="receipts-title"><h2 id="receipts-title">{self.w("receiptsTitle")}</h2><p>{self.w("receiptsIntro")}</p>'
-            f'<div class="wide"><table><thead><tr>{head}</tr></thead><tbody>{rows}</tbody></table></div></section>\n'
+            f'<table class="cards"><thead><tr>{head}</tr></thead><tbody>{rows}</tbody></table></section>\n'
         )
 
     def mock(self, store: Store, papers: Papers, person: Person, last: Optional[Entry]) -> str:
@@ -230,8 +230,10 @@ class Pages:
 
     def entry(self, person: Person) -> str:
         """Returns the candidate's entry in the register."""
-        facts = [("entryNumber", person.board), ("entryName", person.name), ("entryCategory", person.category)]
-        facts += [("entryTraits", person.traits or self.words["none"]), ("entryState", person.state)]
+        category = {"GEN-EWS": "EWS", "OBC-NCL": "OBC"}.get(person.category, person.category)
+        facts = [("entryNumber", person.board), ("entryName", person.name), ("entryCategory", self.words["categories"].get(category, category))]
+        traits = ", ".join(self.words["traits"].get(it, it) for it in person.traits)
+        facts += [("entryTraits", traits or self.words["none"]), ("entryState", person.state)]
         rows = [(self.w(word), html.escape(value)) for word, value in facts if value]
         for at, place in enumerate(person.places, 1):
             if place:

@@ -102,7 +102,7 @@ def begin(path: str, season: Season, boards: dict) -> None:
 
 def hashed(salt: bytes, token: str) -> bytes:
     """Returns the hash of a token. Tokens are made by chance, so a fast hash is enough."""
-    return hmac.digest(salt, token.encode(), "sha256")
+    return hashlib.blake2b(token.encode(), key=salt, digest_size=32).digest()
 
 
 class Store:
@@ -115,6 +115,7 @@ class Store:
         self.key, self.salt = self.fixed("key"), self.fixed("salt")
         rows = self.base.execute("SELECT code, institute, merit, home, others FROM programme ORDER BY at")
         self.programmes = {row[0]: Programme(*row) for row in rows}
+        self.known: dict = {}
 
     def fixed(self, name: str):
         """Returns a value of the store, or None."""
@@ -142,8 +143,10 @@ class Store:
 
     def open_to(self, person: Person) -> dict:
         """Returns the programmes in whose merit list a candidate has a place, by their codes, in the order of the matrix."""
-        merits = {at for at, place in enumerate(person.places, 1) if place}
-        return {code: it for code, it in self.programmes.items() if it.merit_for(person.state) in merits}
+        key = (frozenset(at for at, place in enumerate(person.places, 1) if place), person.state)
+        if key not in self.known:
+            self.known[key] = {code: it for code, it in self.programmes.items() if it.merit_for(person.state) in key[0]}
+        return self.known[key]
 
     def entries(self, number: int) -> list:
         """Returns the receipts of a candidate, the newest first."""
