@@ -320,17 +320,30 @@ def beginning(tally) -> None:
     """Looks at inputs of `begin` that are none, and at a store that is damaged."""
     with tempfile.TemporaryDirectory(prefix="choices-", dir=ROOMS) as room:
         path = f"{room}/choices.db"
-        for given, label in (("", "nothing"), ("office bundle 1\n[register]\n", "a part of a bundle"), (BUNDLE.replace("101,GEN,-", "0,GEN,-"), "a wrong number"), (BUNDLE.replace(TOKENS[101], "short"), "a wrong token")):
+        for given, label in (("", "nothing"), ("office bundle 1\n[register]\n", "a part of a bundle"), (BUNDLE.replace("101,GEN,-", "0,GEN,-"), "a wrong number"), (BUNDLE.replace(TOKENS[101], "short"), "a wrong token"), (BUNDLE.replace(TOKENS[101], "tok00000101"), "a token that is easy to guess")):
             called("begin", path, given=given, status=3)
             tally.holds(not os.path.exists(path), f"begin with {label} makes no store")
         called("begin", path, given=BUNDLE)
         called("begin", path, given=BUNDLE, status=3)
         tally.same(called("state", path).splitlines()[0], "candidates 4 lists 1 empty 0 locked 0", "begin with lists of the bundle")
+        called("copy", path, f"{room}/copy.db")
+        tally.same(called("state", f"{room}/copy.db"), called("state", path), "a copy")
+        called("copy", path, f"{room}/copy.db", status=1)
+        most(tally, store.Store(f"{room}/copy.db"))
         base = sqlite3.connect(path)
         base.execute("UPDATE entry SET codes = 'A B'")
         base.commit()
         base.close()
         tally.holds("damaged" in called("write", path, f"{room}/lists", status=3), "a list that is not that of its receipt is reported")
+
+
+def most(tally, kept: store.Store) -> None:
+    """Looks at how often one candidate may save and report, and whether a refusal among others leaves these."""
+    came = kept.all_together([("save", (101, ("A", "B")[at % 2 :][:1])) for at in range(1_001)] + [("save", (102, ("A",)))])
+    tally.same([it.receipt for it in came[:1_000]], [*range(2, 1_002)], "a thousand lists of one candidate")
+    tally.same((str(came[1_000]), came[1_001].candidate), ("tooOften", 102), "one more is refused, and another candidate's next to it is kept")
+    came = kept.all_together([("report", (101, f"report {at}")) for at in range(21)])
+    tally.same((came[19], str(came[20])), (20, "tooManyReports"), "twenty reports of one candidate, and one more")
 
 
 def places_of(text) -> set:

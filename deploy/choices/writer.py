@@ -1,5 +1,6 @@
 """Does what is to be kept, one after another in a thread of its own, and tells each asker when it is on the disk."""
 import asyncio
+import os
 import queue
 import sqlite3
 import sys
@@ -33,7 +34,15 @@ class Writer(threading.Thread):
         return came
 
     def run(self) -> None:
-        store = Store(self.path)
+        """Writes until the service ends. If this thread cannot go on, the whole service ends, and systemd starts it again."""
+        try:
+            self.write(Store(self.path))
+        except BaseException as why:
+            print(f"choices: the thread that writes ended: {type(why).__name__}", file=sys.stderr, flush=True)
+            os._exit(1)
+
+    def write(self, store: Store) -> None:
+        """Does what waits, again and again."""
         while True:
             jobs = [self.waiting.get()]
             while len(jobs) < self.together and not self.waiting.empty():
