@@ -196,8 +196,8 @@ def tried(room: str, count: int, kills: int, at_a_time: int, together: int, seco
     lost = sum(not receipt for it in candidates.sent.values() for _, receipt in it)
     if found:
         raise Wrong(f"{len(found)} faults, the first: {found[0]}")
-    size = os.path.getsize(f"{room}/choices.db") >> 20
     return (
-        f"{count} candidates, {at_a_time} at a time, {kills} kills: {candidates.done} came, {receipts} receipts in {took:.0f} seconds ({receipts / took:.0f} a second), slowest save {candidates.slowest:.1f} seconds; "
-        f"{candidates.broken} connections broke, {lost} saves had no reply and were sent again; all receipts are in the clerk's files; the store has {size} MiB"
+        f"{count} candidates, {at_a_time} at a time, {kills} kills: {candidates.done} came, and {receipts} receipts were given in {took:.0f} seconds, "
+        f"{receipts / took:.0f} a second, the slowest after {candidates.slowest:.1f} seconds. {candidates.broken} connections broke, and {lost} saves had no reply "
+        f"and were sent again. All receipts are in the clerk's files; the store has {os.path.getsize(f'{room}/choices.db') >> 20} MiB."
     )

@@ -14,6 +14,7 @@ HERE = os.path.dirname(os.path.realpath(__file__))
 INDIA = datetime.timezone(datetime.timedelta(hours=5, minutes=30), "IST")
 SHOWN = 60
 LANGUAGES = {"en": "/choices/", "hi": "/choices/hi/"}
+AS_TYPED = 'autocapitalize="off" spellcheck="false" required'
 KINDS = {"list": "kindList", "lock": "kindLock", "unlock": "kindUnlock"}
 
 
@@ -99,9 +100,9 @@ class Pages:
             f'<p>{self.w("intro")}</p>\n<section aria-labelledby="door"><h2 id="door">{self.w("signInTitle")}</h2>'
             f'<form method="post" action="{self.base}enter" autocomplete="off">{kept}'
             f'<p><label for="number">{self.w("number")}</label><span class="hint" id="number-hint">{self.w("numberHint")}</span>'
-            f'<input id="number" name="number" value="{html.escape(number)}" maxlength="40" autocomplete="off" autocapitalize="off" spellcheck="false" required aria-describedby="number-hint"></p>'
+            f'<input id="number" name="number" value="{html.escape(number)}" maxlength="40" autocomplete="off" {AS_TYPED} aria-describedby="number-hint"></p>'
             f'<p><label for="token">{self.w("token")}</label><span class="hint" id="token-hint">{self.w("tokenHint")}</span>'
-            f'<input id="token" name="token" type="password" size="40" maxlength="80" autocomplete="one-time-code" autocapitalize="off" spellcheck="false" required aria-describedby="token-hint"></p>'
+            f'<input id="token" name="token" type="password" size="40" maxlength="80" autocomplete="one-time-code" {AS_TYPED} aria-describedby="token-hint"></p>'
             f'<p><button class="main">{self.w("signIn")}</button></p></form></section>\n',
             said,
         )
@@ -168,12 +169,10 @@ class Pages:
 
     def row(self, store: Store, papers: Papers, code: str, *buttons: str) -> str:
         """Returns a programme with its buttons."""
-        name = html.escape(self.programme(store, papers, code))
-        made = "".join(
-            f'<button class="small" name="do" value="{it} {html.escape(code)}" aria-label="{self.w("of", button=self.words[it], programme=self.programme(store, papers, code))}">{self.w(it)}</button> '
-            for it in buttons
-        )
-        return f'<li data-code="{html.escape(code)}"><span>{name}</span> <span class="buttons">{made}</span></li>'
+        name, coded = self.programme(store, papers, code), html.escape(code)
+        labels = {it: self.w("of", button=self.words[it], programme=name) for it in buttons}
+        made = "".join(f'<button class="small" name="do" value="{it} {coded}" aria-label="{label}">{self.w(it)}</button> ' for it, label in labels.items())
+        return f'<li data-code="{coded}"><span>{html.escape(name)}</span> <span class="buttons">{made}</span></li>'
 
     def offered(self, store: Store, papers: Papers, view: View, open_to: dict) -> str:
         """Returns the programmes that may be added, as far as they were searched, and a field for codes."""
@@ -226,7 +225,8 @@ class Pages:
             choice = last.codes.index(whole) + 1 if last and whole in last.codes else None
             told = self.w("mockSeat" if choice else "mockSeatOther", programme=self.programme(store, papers, whole), step=step, choice=choice)
         links = "".join(f'<li><a href="/season/{name}">{self.w(word)}</a></li>' for name, word in papers.mock_files())
-        return f'<section id="mock" aria-labelledby="mock-title"><h2 id="mock-title">{self.w("mockTitle")}</h2><p>{self.w("mockIntro")}</p><p>{told}</p><ul>{links}</ul></section>\n'
+        head = f'<section id="mock" aria-labelledby="mock-title"><h2 id="mock-title">{self.w("mockTitle")}</h2>'
+        return f'{head}<p>{self.w("mockIntro")}</p><p>{told}</p><ul>{links}</ul></section>\n'
 
     def entry(self, person: Person) -> str:
         """Returns the candidate's entry in the register."""
