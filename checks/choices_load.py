@@ -166,16 +166,18 @@ def faults(folder: str, sent: dict) -> list:
 
 
 async def killed(service: Service, candidates: Candidates, kills: int, at_a_time: int, seconds: float) -> None:
-    """Lets all candidates come, or as many as come within the time, and kills the service so often meanwhile."""
-    began, all_of = time.monotonic(), len(candidates.tokens)
+    """Lets all candidates come, or as many as come while the service is up for so long, and kills it so often meanwhile."""
+    up, each, all_of = time.monotonic(), seconds / (kills + 1), len(candidates.tokens)
     crowd = asyncio.create_task(candidates.at_a_time(at_a_time))
     for turn in range(1, kills + 1):
-        while max(candidates.done / all_of, (time.monotonic() - began) / seconds) < turn / (kills + 1) and not crowd.done():
+        # the time for which the service is down counts for nothing
+        while candidates.done < all_of * turn / (kills + 1) and time.monotonic() - up < each and not crowd.done():
             await asyncio.sleep(0.01)
         service.kill()
         await asyncio.to_thread(service.start)
+        up = time.monotonic()
     while not crowd.done():
-        candidates.is_over |= time.monotonic() - began > seconds
+        candidates.is_over |= time.monotonic() - up > each
         await asyncio.sleep(0.05)
     await crowd
 
