@@ -128,8 +128,11 @@ def limits(tally, nginx: Front) -> None:
 
 def browser(tally) -> None:
     """Makes a list in Chromium, with the page's script and without one."""
-    if is_lacking(tally, "browser", "nginx", "openssl") or not chromium.program():
-        return None if is_lacking(tally, "browser", "nginx", "openssl") else tally.skips("browser", "chromium")
+    if is_lacking(tally, "browser", "nginx", "openssl"):
+        return
+    if not chromium.program():
+        tally.skips("browser", "chromium")
+        return
     with fronted() as (room, nginx, service), chromium.Browser(f"{room}/browser", HOST, nginx.cert) as it:
         for is_scripted, number, language in ((True, 101, ""), (False, 102, "hi/")):
             visited(tally, it, nginx, number, language, is_scripted)
@@ -141,7 +144,7 @@ def browser(tally) -> None:
 
 
 def press(it, selector: str) -> None:
-    """Presses a button and waits for the page that follows, if one follows."""
+    """Presses a button."""
     it.js(f"document.querySelector({selector!r}).click()")
 
 
