@@ -153,6 +153,9 @@ def faults(folder: str, sent: dict) -> list:
     lists = {int(row[0]): tuple(row[1:]) for row in rows_of(f"{folder}/choices.csv")}
     found = []
     for number, attempts in sent.items():
+        if not attempts:
+            # the candidate did not come within the time, and the sets below are compared too
+            continue
         for codes, receipt in attempts:
             if receipt and kept.get(receipt) != (number, codes):
                 found.append(f"receipt {receipt} of candidate {number}: {codes[:3]} and not {kept.get(receipt)}")
