@@ -3,6 +3,7 @@ import contextlib
 import os
 import re
 import tempfile
+import time
 from typing import Iterator
 from urllib.parse import urlencode
 
@@ -10,7 +11,7 @@ import browser as chromium
 from choices_load import Service, called
 from choices_rules import TOKENS, begun
 from front import CLERK_AT, HOST, OTHER_AT, Front, called as ran, found, text_of
-from served import TOP
+from served import TOP, Wrong
 
 FORM = "Content-Type: application/x-www-form-urlencoded"
 
@@ -144,8 +145,20 @@ def browser(tally) -> None:
 
 
 def press(it, selector: str) -> None:
-    """Presses a button."""
-    it.js(f"document.querySelector({selector!r}).click()")
+    """Presses a button. The page may be another one before the call returns, and timers do not run without scripts."""
+    with contextlib.suppress(RuntimeError):
+        it.js(f"document.querySelector({selector!r}).click()")
+
+
+def waits(it, holds: str) -> None:
+    """Waits until an expression holds, also while the page becomes another one."""
+    for _ in range(20):
+        try:
+            it.until(holds)
+            return
+        except RuntimeError:
+            time.sleep(0.2)
+    raise Wrong(f"the page does not come: {holds}")
 
 
 def visited(tally, it, nginx: Front, number: int, language: str, is_scripted: bool) -> None:
@@ -154,24 +167,25 @@ def visited(tally, it, nginx: Front, number: int, language: str, is_scripted: bo
     label = "with a script" if is_scripted else "without a script"
     it.size(360, 740)
     it.call("Page.navigate", url=f"{nginx.origin}/choices/{language}")
-    it.until("document.readyState === 'complete' && document.querySelector('#number')")
-    it.js(f"document.querySelector('#number').value = '{number}'; document.querySelector('#token').value = '{TOKENS[number]}'; document.querySelector('form').requestSubmit()")
-    it.until("document.querySelector('#editor')")
+    waits(it, "document.readyState === 'complete' && document.querySelector('#number')")
+    it.js(f"document.querySelector('#number').value = '{number}'; document.querySelector('#token').value = '{TOKENS[number]}'")
+    press(it, "form button.main")
+    waits(it, "document.querySelector('#editor')")
     shots(it, f"{number}-signed-in")
     for code in ("A", "B", "C") if number == 101 else ("A", "B"):
         press(it, f'button[value="add {code}"]')
-        it.until(f"document.querySelector('button[value=\"out {code}\"]')")
+        waits(it, f"document.querySelector('button[value=\"out {code}\"]')")
     for button, wanted in (("up B", "B A C"), ("top C", "C B A"), ("out B", "C A")) if number == 101 else (("up B", "B A"), ("out A", "B")):
         press(it, f'button[value="{button}"]')
-        it.until(f"document.querySelector('#editor [name=list]').value === '{wanted}'")
+        waits(it, f"document.querySelector('#editor [name=list]').value === '{wanted}'")
     tally.same(it.js("document.querySelector('#unsaved').hidden"), False, f"a list that is not saved says so, {label}")
     press(it, 'button[value="save"]')
-    it.until("document.querySelector('.say.good')")
+    waits(it, "document.querySelector('.say.good')")
     tally.same(it.js("document.querySelector('#unsaved').hidden"), True, f"a list that is saved says so, {label}")
     tally.same(it.js("document.documentElement.scrollWidth <= 360"), True, f"nothing is beside a screen of 360 pixels, {label}")
     shots(it, f"{number}-saved")
     press(it, ".visit button")
-    it.until("document.querySelector('#token')")
+    waits(it, "document.querySelector('#token')")
     tally.same(it.js("document.cookie"), "", f"no cookie is in reach of a script, {label}")
 
 
