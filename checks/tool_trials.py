@@ -27,6 +27,7 @@ from plain_trials import Draw, in_order
 TOP = os.path.dirname(os.path.dirname(os.path.realpath(__file__)))
 sys.path.append(f"{TOP}/tools")
 
+from bundles import plain_bundle
 import explain_table
 import formats
 from faults import FINDERS
@@ -339,6 +340,8 @@ def made_by_season(program, name, words):
     with tempfile.TemporaryDirectory(prefix="season-", dir=cases.ROOMS) as room:
         put_files(room, {**every.files, **case.files})
         wrote, _, _ = called("season", [*words, room])
+    if b"\n[states]\n" in wrote:
+        wrote = plain_bundle(lambda given, data: cases.called(program, given, data, "/"), wrote)
     counts, status = cases.called(program, ["check"], wrote, "/")
     return None if status == 0 and counts.startswith(b"bundle candidates ") else f"tools/season, {name}: check writes {counts!r:.80} with status {status}"
 
