@@ -308,6 +308,7 @@ class Matrix:
     def join_pools(self) -> None:
         """Makes one row of the pools of each step, with W and D for the seats that are protected."""
         is_apart, examples, sums = self.wide.get("is_apart", (True,))[0], [], Seats(0, 0, 0, 0)
+        written = {row[0] for row in self.rows}
         for name, it in self.programmes.items():
             for of, pools in it.steps.items():
                 if not isinstance(pools, dict):
@@ -323,7 +324,7 @@ class Matrix:
                 if any(both):
                     self.rows.append(row)
             counts = [count for _, count in it.steps.values()]
-            if counts and not any(counts):
+            if counts and not any(counts) and name not in written:
                 self.rows.append((name, it.institute, it.merit, "OPEN", 0, 0, 0, 0, 0, 0, 0))
         self.tell_pools(sums, examples, is_apart)
 
