@@ -355,7 +355,8 @@ def fault_of_own(program: str, label: str, given: bytes) -> str | None:
     if status:
         return None
     season, _, published = re.sub(r"^(\[\w+\]),*\r?$", r"\1", given.decode(), flags=re.M).partition("[published]\n")
-    own, found = (without_lists(it) for it in (Dossier(season).published(), published.split("\n")))
+    # no field of a drawn season has a comma or a quotation mark in it, and the plain office reads none that is quoted
+    own, found = (without_lists(it) for it in (Dossier(season.replace('"', "")).published(), published.split("\n")))
     return None if own == found else f"{label}: {wrote.decode().split()} of rounds and final admissions that are not the office's"
 
 
