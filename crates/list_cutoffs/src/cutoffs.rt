@@ -38,7 +38,7 @@ fn push_under(
 /// Returns the cutoffs of a programme in a published round, from its lists there: for each step, in the order of the
 /// lists, the lines that give the cutoff of each set of traits, in the order of the sets' numbers. No line can be left
 /// out, and a step that admits nobody has none. Of the seats of the matrix it looks at the merit list and the
-/// protections alone. Each line costs one walk through those whom its list admits.
+/// protections alone. Each line looks through those whom its list admits.
 pub fn cutoffs_in(
     alloc: Global,
     seats: &ProgrammeSeats,

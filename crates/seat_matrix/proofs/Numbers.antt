@@ -15,7 +15,6 @@ use Rattle.std.proofs.lemmas.Option.{slice_get_within}
 use Rattle.std.proofs.lemmas.Map.Text.{is_eq-slice_cmp}
 use Rattle.std.proofs.lemmas.Slice.Eq.{bytes_eq-Decides}
 use Rattle.indexmap.specs.IndexMap.{insert_entry}
-use Rattle.office_base.specs.Limits.{most_programmes}
 use Rattle.office_base.specs.declared.person.ProgId.{ProgId}
 use Rattle.section_rows.specs.Steps.{or_else}
 use Rattle.section_rows.proofs.StepsLemmas.{flip}
@@ -139,10 +138,6 @@ codes_long [] i less = absurd (omega (arith, less))
 codes_long (first ∷ programmes) zero less = refl
 codes_long (first ∷ programmes) (suc i) less = ap (λ (n : ℕ). suc n) (codes_long programmes i (omega (arith, less)))
 
-codes_counted : (programmes : Homes) → length (codes_in programmes) ≡ length programmes
-codes_counted [] = refl
-codes_counted (first ∷ programmes) = ap (λ (n : ℕ). suc n) (codes_counted programmes)
-
 -- no earlier programme has the code of this one
 fresh : (programmes : Homes) (i : ℕ) (held : List ℕ × Home) → Distinct (codes_in programmes) → slice_get programmes i ≡ Some held → list_any (bytes_eq held.0) (codes_in (take i programmes)) ≡ false
 fresh [] i held distinct e = cc e
@@ -183,10 +178,6 @@ module _ (entries : List Entry) (table : MatrixBuilder) (keeps : Keeps entries t
   -- no code is listed twice
   pub kept_apart : (programmes : Homes) → programmes ≡ table.programmes.entries → Distinct (codes_in programmes)
   kept_apart programmes those = subst Distinct (sym (ap (λ (l : Homes). codes_in l) those ∙ kept_codes)) (codes-distinct [] entries tt)
-
-  pub kept_few : (programmes : Homes) → programmes ≡ table.programmes.entries → length programmes ≤ most_programmes
-  kept_few programmes those =
-      omega (arith, keeps.sound.few, codes_counted programmes, ap (λ (l : List (List ℕ)). length l) (ap (λ (l : Homes). codes_in l) those ∙ kept_codes))
 
   -- the seats of all programmes are those of all codes
   pub all_seats_made : (steps : List Seatings) (programmes : Homes) → programmes ≡ table.programmes.entries → steps ≡ map (λ held. seatings_in entries held.0) programmes → steps ≡ map (seatings_in entries) (codes_of entries)
