@@ -5,6 +5,7 @@ mod Exchanged
 mod Finished
 mod Looks
 mod NextRounds
+mod OneText
 mod Otherwise
 mod ReadAlone
 mod ReadBack

@@ -1,6 +1,7 @@
 pub mod Laws
 pub mod Looks
 pub mod NextRounds
+pub mod OneText
 pub mod Otherwise
 pub mod ReadBack
 pub mod Reasons

@@ -3,6 +3,7 @@ ghost use Rattle.office_moves.specs.Facts.{SeasonFacts};
 ghost use Rattle.season_laws.specs.Laws.{AnswersCanBeExchanged, OrderWithinWindowsIsFree, SeasonsCanBeFinished};
 ghost use Rattle.season_laws.specs.Looks.{AnswersLookAtOwnRows, CutoffsLookAtTheRound, EntriesLookAtTheSeason, ListsLookAtTheRound, PublishedRepliesStay, RaisesLookAtRaises, RoundsLookAtNumbers, StateLooksAtNumbers};
 ghost use Rattle.season_laws.specs.NextRounds.{EveryRequestIsAnswered, NextRoundExists};
+ghost use Rattle.season_laws.specs.OneText.{AnswersAreOneText, CutoffsAreOneText, EntriesAreOneText};
 ghost use Rattle.season_laws.specs.Otherwise.{FloatIsNoWorse, RaisesHurtNobody};
 ghost use Rattle.season_laws.specs.ReadBack.{PublishedIsRead, PublishedIsReadAlone};
 ghost use Rattle.season_laws.specs.Reasons.{OfficeReasonsAreJust, ToldReasonsAreJust};
@@ -150,6 +151,21 @@ pub fn published_is_read_alone()
     publish::laws::finals_are_one();
     list_texts::laws::lists_are_one();
 }
+
+/// A text of cutoffs is that of one round, one programme and one list of lines: equal bytes say the same.
+pub fn cutoffs_are_one_text()
+    ensures { CutoffsAreOneText }
+{}
+
+/// The line of an entry of the register is that of one entry.
+pub fn entries_are_one_text()
+    ensures { EntriesAreOneText }
+{}
+
+/// A text of accepted answers is that of one candidate and one list of answers.
+pub fn answers_are_one_text()
+    ensures { AnswersAreOneText }
+{}
 
 /// What an office kept is replayed: where a history leads to a state and records stand for it, these records are replayed to that state.
 pub fn kept_is_replayed()
