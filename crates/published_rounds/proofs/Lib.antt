@@ -1,5 +1,6 @@
 mod OneMore
 mod Simple
+mod Judgments
 pub mod ListFronts
 mod Compared
 mod Fronts

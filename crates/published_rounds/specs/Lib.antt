@@ -1,5 +1,6 @@
 pub mod OneMore
 pub mod Simple
+pub mod Judgments
 pub mod Laws
 pub mod Published
 pub mod WholeListLaws

@@ -1,6 +1,7 @@
 // The laws of the rounds that a history publishes, of fair seats, and of other rules, registers and papers. Each is the
 // contract of a function that does nothing.
 ghost use Rattle.published_rounds.specs.OneMore.{OneMoreKeepsItsHolders};
+ghost use Rattle.published_rounds.specs.Judgments.{TheOrderOfTheJudgments};
 ghost use Rattle.published_rounds.specs.Simple.{TheSimpleRule};
 ghost use Rattle.office_moves.specs.Facts.{SeasonFacts};
 ghost use Rattle.published_rounds.specs.Laws.{MoreSeatsHurtNobody, NoOtherListGivesMore, NobodyIsEnvied, SameAreSeated, SeatsAreWithin};
@@ -25,6 +26,14 @@ pub fn the_simple_rule()
     ensures { TheSimpleRule }
 {
     merit_choice::laws::by_hand();
+}
+
+/// And it is the list in the order of the judgments: the best take the seats, the missing holders of each trait are brought up
+/// from below, and as many of the others are struck out, the last first.
+pub fn the_order_of_the_judgments()
+    ensures { TheOrderOfTheJudgments }
+{
+    the_simple_rule();
 }
 
 /// One protected seat more for a trait, among the same seats of a step, keeps each chosen holder of the trait.
