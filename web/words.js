@@ -733,7 +733,7 @@ const TROUBLES = {
   broken: "The reply broke off while it was on its way. Your connection may be slow or down.",
   away: "The office does not answer just now.",
   busy: "Too many people are asking just now. Wait a moment.",
-  keeper: "The office could not keep the record, so it did not take the request.",
+  keeper: "The office could not confirm that it kept this, so it gives no receipt.",
   memory: "The office ran out of memory.",
   closed: "The web server does not allow this computer to ask for this.",
 };
