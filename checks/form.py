@@ -4,8 +4,8 @@
     checks/form.py [FOLDER]      the findings of the checkout at FOLDER, or of this one, with the names and links of checks/documents.py
 
 - No line of prose is longer than 160 characters. Headings, tables and code are no prose.
-- On a page for people no sentence has more than 40 words, and on average a sentence has at least 13 and at most 18.
-  No three sentences in a row of a paragraph have at most 6 words each: such a text is correct and choppy.
+- No sentence has more than 40 words, and no three sentences in a row of a paragraph have at most 6 words each: such a text is correct and choppy.
+- On the pages for people, and on those for who works on the office, a sentence has on average at least 13 and at most 18 words.
 - Some words are in no document outside of code: each has a plainer one.
 - A page for people that shows the step D says in bold that it is de-reserved, because D is also the trait of persons with disabilities.
 
@@ -25,6 +25,9 @@ VERY_SHORT, IN_A_ROW = 6, 3
 # the pages for people who are not inside yet
 COUNTED = ("README.md", "SECURITY.md", "CHANGELOG.md", "examples/README.md", *(f"docs/{it}.md" for it in
            ("CANDIDATE", "CLERK", "COURT", "INSTITUTE", "HTTP", "LAW", "JOSAA", "NOT", "RULES", "CHECKING", "TUTORIAL")))
+# the pages for who works on the office, whose rhythm is held too
+HELD = ("CONTRIBUTING.md", "deploy/README.md", "deploy/choices/README.md", "deploy/replicated/README.md", "tools/README.md", "web/README.md",
+        *(f"docs/{it}.md" for it in ("DECISIONS", "DEFINITIONS", "FORMATS", "REFERENCES", "RUNNING", "TRUST", "promises/courts", "promises/institutes")))
 # the letter D in the place of a step, and the words that say so
 STEP_D = re.compile(r"\bstep D\b|(?:^ *|\\n)D seats \d|`D - ", re.M)
 SAYS_STEP_D = re.compile(r"\*\*[^*]*\bde-reserved\b[^*]*\*\*")
@@ -166,7 +169,8 @@ def averages():
 
 def faults():
     found = [it for path in documents.markdown() for it in long_lines(path)]
-    found += [it for path in COUNTED if os.path.exists(path) for it in [*long_sentences(path), *choppy(path), *out_of_rhythm(path)]]
+    found += [it for path in documents.markdown() if not path.endswith(".hi.md") for it in [*long_sentences(path), *choppy(path)]]
+    found += [it for path in (*COUNTED, *HELD) if os.path.exists(path) for it in out_of_rhythm(path)]
     found += [it for path in (*COUNTED, "docs/FORMATS.md", "docs/promises/candidates.md") if os.path.exists(path) for it in unclear_letters(path)]
     return found + [it for path in documents.markdown() if of_plain_words(path) for it in hard_words(path)]
 
