@@ -13,6 +13,7 @@ import sqlite3
 import ssl
 import subprocess
 import threading
+import time
 import types
 from unittest import mock
 
@@ -491,6 +492,30 @@ def announced(room, program):
     tally.same(script("announce", [room, "remove", "names.csv"], program)[0], 2, "announce removes only papers")
 
 
+# what run-office runs in place of the office: it says that its store failed, or not, and then ends or waits
+FAILING = "import sys, time; sys.stderr.write('answered 503: the store failed; later failures are not reported here\\n'); sys.stderr.flush(); time.sleep(30)"
+
+
+@part("run-office ends an office whose store failed")
+def ends_failed(room, program):
+    def run(code, store=f"{room}/season.db"):
+        begun = time.monotonic()
+        ran = subprocess.run([f"{DEPLOY}/run-office", store, "python3", "-c", code], capture_output=True, timeout=60)
+        return ran.returncode, ran.stderr.decode(), time.monotonic() - begun
+
+    status, wrote, secs = run(FAILING)
+    tally.holds(status == 6 and wrote.startswith("answered 503") and "the office is ended" in wrote and secs < 3, "run-office ends an office whose disk works again", f"{status} {wrote} {secs:.1f} s")
+    tally.same(os.listdir(room), [], "run-office leaves no file")
+    status, wrote, secs = run(FAILING.replace("sleep(30)", "sleep(3)"), f"{room}/missing/season.db")
+    tally.holds(status == 0 and "is ended" not in wrote and secs >= 3, "run-office leaves an office up while its disk fails", f"{status} {wrote} {secs:.1f} s")
+    for code, wanted in (("import sys; sys.exit(9)", 9), ("pass", 0), ("import os; os.kill(os.getpid(), 9)", -9)):
+        tally.same(run(code)[0], wanted, f"run-office ends as its program: {wanted}")
+    with subprocess.Popen([f"{DEPLOY}/run-office", f"{room}/season.db", "sleep", "30"]) as child:
+        time.sleep(1)
+        child.terminate()
+        tally.same(child.wait(), -15, "run-office hands a signal on")
+
+
 @part("what is watched")
 def watched(room, program):
     log, store = f"{room}/nachodune.log", f"{room}/season.db"
@@ -539,7 +564,7 @@ def quick_sleep(room):
 # ---- what is installed
 
 UNITS = tuple(sorted(it for it in os.listdir(DEPLOY) if it.startswith("nachodune") and it.endswith((".service", ".socket", ".timer", ".path"))))
-SCRIPTS = ("alert", "announce", "begin", "counts", "empty-texts", "go-back", "keep-copy", "papers", "pause", "upgraded", "watch")
+SCRIPTS = ("alert", "announce", "begin", "counts", "empty-texts", "go-back", "keep-copy", "papers", "pause", "run-office", "upgraded", "watch")
 
 
 def checkout(room, program):
@@ -692,7 +717,7 @@ say doored "$(systemctl is-active nachodune-door.service)"
 systemctl start nachodune-night.service; up
 say night "$(state)"
 # another version takes the place of the program, as dpkg puts it: the old one answers until an administrator starts the new one
-program() { cmp -s /proc/$(systemctl show -p MainPID --value nachodune)/exe "$1" && echo "$2"; }
+program() { main=$(systemctl show -p MainPID --value nachodune); cmp -s /proc/$(cut -d ' ' -f 1 /proc/$main/task/$main/children)/exe "$1" && echo "$2"; }
 put() { cp "$1" /put.new; chmod 755 /put.new; mv /put.new $lib/office; }
 cp /program /program.new; printf x >> /program.new
 put /program.new
