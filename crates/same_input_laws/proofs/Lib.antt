@@ -22,4 +22,5 @@ mod OwnRounds
 mod SameRounds
 mod SeasonDossiers
 mod ShownLists
+mod Stops
 mod ToldRows

@@ -3,6 +3,7 @@ pub mod Keep
 pub mod ResumeOutputs
 pub mod UnitOutputs
 pub mod SpecialOutputs
+pub mod Stops
 pub mod Calls
 pub mod Joined
 pub mod AuditOutputs

@@ -8,6 +8,7 @@ ghost use Rattle.same_input_laws.specs.Calls.{CallsAreOne};
 ghost use Rattle.same_input_laws.specs.AuditOutputs.{EachAuditIsOne};
 ghost use Rattle.same_input_laws.specs.SeasonDossiers.{SeasonsHaveDossiers};
 ghost use Rattle.same_input_laws.specs.OwnRounds.{SoundAndBestAreOwn};
+ghost use Rattle.same_input_laws.specs.Stops.{AStopCostsNothing};
 
 use keeper_mem::Keeper;
 use office_base::{Sink, Source};
@@ -33,6 +34,17 @@ pub fn resumes_are_one()
     one_output::laws::one_season();
     history_laws::laws::history_grows();
     replays::laws::one_end();
+    season_commands::laws::one_run();
+}
+
+/// A stop costs nothing: an office that resumes from what a stopped run kept answers the other requests as the run that did
+/// not stop, with the same bytes, and is in the same state at the end.
+pub fn a_stop_costs_nothing()
+    ensures { AStopCostsNothing }
+{
+    season_laws::laws::kept_is_replayed();
+    replays::laws::one_end();
+    season_commands::laws::prefix_is_a_run();
     season_commands::laws::one_run();
 }
 
