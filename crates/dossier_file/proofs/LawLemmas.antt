@@ -80,7 +80,7 @@ module _ {V : Type 0} (grammar : Grammar V) (bytes : List ℕ) where
     ]
   ]
 
-  one_line : (n m : ℕ) → IsFaultLine grammar bytes n → IsFaultLine grammar bytes m → n ≡ m
+  pub one_line : (n m : ℕ) → IsFaultLine grammar bytes n → IsFaultLine grammar bytes m → n ≡ m
   one_line n m a b = elim (cases_lt n m) [
     | inl less ↦ absurd (not_before n m less a b)
     | inr not ↦ elim (cases_lt m n) [

@@ -8,7 +8,8 @@ mod ListLemmas
 mod TextLemmas
 mod DueLemmas
 pub mod SplitLemmas
+pub mod SpecialLemmas
 mod KeptLemmas
-mod LawLemmas
+pub mod LawLemmas
 mod PartLemmas
 mod OneLemmas

@@ -1,4 +1,5 @@
 pub mod Split
+pub mod Special
 pub mod Dossier
 pub mod Due
 pub mod Kept

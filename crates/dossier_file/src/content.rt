@@ -18,8 +18,9 @@ use season_file::{Season, SeasonFault};
 use std::alloc::Global;
 use text_readers::codes_are_spelled;
 
-/// The bytes that a source gives up to its end.
-pub(crate) fn read_bytes<S: Source>(alloc: Global, source: &mut S) -> Result<Text, DossierFault>
+/// Returns the bytes that a source gives up to its end. It fails if the source does, if there are more than 134,217,728 bytes,
+/// or if memory runs out; then nothing of them is left.
+pub fn read_bytes<S: Source>(alloc: Global, source: &mut S) -> Result<Text, DossierFault>
     ensures taken { IfOk result (λ bytes. Took bytes (S.left source.old) (S.left source.new)) }
     ensures ended { IfOk result (λ bytes. IsAtEnd (S.left source.new)) }
     ensures short { IfOk result (λ bytes. length bytes ≤ most_bundle_bytes) }

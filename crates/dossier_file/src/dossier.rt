@@ -8,7 +8,7 @@ use crate::fault::DossierFault;
 use crate::papers::{ListReads, Papers, RoundReads};
 use crate::splitting::split_at_titles;
 use office_base::Source;
-use publish::FinalRead;
+use publish::{FinalRead, TextFault};
 use request_rows::Script;
 use season_file::Season;
 use std::alloc::Global;
@@ -33,6 +33,8 @@ impl Dossier {
     ghost use Rattle.std.specs.Prelude.{◌≤◌, length, IfOk, IfErr, IsErrOf};
     ghost use Rattle.office_base.specs.Limits.{most_bundle_bytes};
     ghost use Rattle.office_base.specs.Outside.{Rose};
+    ghost use Rattle.text_readers.specs.Reading.{IsTextFault};
+    ghost use Rattle.dossier_file.specs.Papers.{AreDuePapers};
     ghost use Rattle.dossier_file.specs.Dossier.{GaveDossier, GaveDossierFault, IsBytesFault, IsDossier, papers_of};
 
     /// The dossier that the bytes are which a source gives up to its end, or their first fault.
@@ -51,8 +53,8 @@ impl Dossier {
         Dossier::of_bytes(alloc, bytes.as_slice())
     }
 
-    /// The dossier that bytes are, or their first fault.
-    fn of_bytes(alloc: Global, bytes: &[u8]) -> Result<Dossier, DossierFault>
+    /// Returns the dossier that bytes are, or their first fault, which is never `ReadFault` or `TooLong`.
+    pub fn of_bytes(alloc: Global, bytes: &[u8]) -> Result<Dossier, DossierFault>
         requires { length bytes.now ≤ most_bundle_bytes }
         ensures value { IfOk result (λ dossier. IsDossier bytes.now dossier) }
         ensures fault { IfErr result (λ fault. IsBytesFault bytes.now fault) }
@@ -71,6 +73,27 @@ impl Dossier {
         match read_papers(alloc, &season, script.as_slice(), parts.published) {
             Ok(papers) => Ok(Dossier::with_papers(season, script, papers)),
             Err(fault) => Err(papers_error(fault)),
+        }
+    }
+
+    /// Returns the dossier of a season and requests with these published texts, or the line of their fault.
+    pub fn of_texts(
+        alloc: Global,
+        season: Season,
+        script: Script,
+        published: &[u8],
+    ) -> Result<Dossier, TextFault>
+        requires { length published.now ≤ most_bundle_bytes }
+        ensures season { IfOk result (λ dossier. dossier.season ≡ season) }
+        ensures script { IfOk result (λ dossier. dossier.script ≡ script) }
+        ensures papers { IfOk result (λ dossier. AreDuePapers season.matrix
+            season.register.people season.rounds script published.now (papers_of dossier)) }
+        ensures fault { IfErr result (λ fault. IsTextFault (AreDuePapers season.matrix
+            season.register.people season.rounds script) published.now fault) }
+    {
+        match read_papers(alloc, &season, script.as_slice(), published) {
+            Ok(papers) => Ok(Dossier::with_papers(season, script, papers)),
+            Err(fault) => Err(fault),
         }
     }
 

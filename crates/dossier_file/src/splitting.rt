@@ -16,7 +16,7 @@ pub(crate) struct Parts<'a> {
 }
 
 /// Where the first line of this name begins. None where there is none.
-fn find_title(text: &[u8], name: &[u8]) -> Option<usize>
+pub(crate) fn find_title(text: &[u8], name: &[u8]) -> Option<usize>
     ensures some { IfSome result (λ at. IsTitledAt name.now text.now at) }
     ensures none { IfNone result ((at : ℕ) → IsTitledAt name.now text.now at → ⊥) }
 {
