@@ -1,7 +1,7 @@
--- The same bytes of a dossier have one verdict.
+-- The same bytes are one dossier, and have one verdict.
 use Rattle.std.specs.Prelude.{◌≡◌, ℕ, List, map, option_map}
 use Rattle.season_facts.specs.Season.{facts_of}
-use Rattle.dossier_file.specs.Dossier.{IsDossier}
+use Rattle.dossier_file.specs.Dossier.{IsDossier, papers_of}
 use Rattle.dossier_file.specs.declared.dossier.Dossier.{Dossier}
 use Rattle.audit_rules.specs.Papers.{Papers}
 use Rattle.audit_rules.specs.Verdict.{IsVerdict}
@@ -14,6 +14,16 @@ audited_of dossier = record {
   lists = map (λ read. read.programme) dossier.lists;
   finals = option_map (λ read. read.rows) dossier.last;
 }
+
+-- Two dossiers say the same: of the season, of its requests, and of what was published.
+pub record AreSame (dossier other : Dossier) : Type 0 where
+  pub facts : facts_of dossier.season ≡ facts_of other.season
+  pub script : dossier.script ≡ other.script
+  pub papers : papers_of dossier ≡ papers_of other
+
+-- Bytes are one dossier.
+abbrev pub OneDossierOfBytes : Type 0
+OneDossierOfBytes = (bytes : List ℕ) (dossier other : Dossier) → IsDossier bytes dossier → IsDossier bytes other → AreSame dossier other
 
 -- The bytes of a dossier have one verdict, and one matrix, by whose codes its line is written.
 abbrev pub OneVerdictOfBytes : Type 0

@@ -1,6 +1,6 @@
 // The laws of two readings and runs of the same bytes. Each is the contract of a function that does nothing.
 ghost use Rattle.one_output.specs.Laws.{GiveOneSeason, OneOutput, OneTally};
-ghost use Rattle.one_output.specs.VerdictLaws.{OneVerdictOfBytes};
+ghost use Rattle.one_output.specs.VerdictLaws.{OneDossierOfBytes, OneVerdictOfBytes};
 
 /// Bytes give one season and one script.
 /// So does the text of a season that is kept, or is in a dossier. What the season says is sound.
@@ -26,12 +26,19 @@ pub fn one_tally()
     season_commands::laws::one_tally();
 }
 
-/// The bytes of a dossier have one verdict, on seasons of the same matrix.
-pub fn one_verdict_of_bytes()
-    ensures { OneVerdictOfBytes }
+/// Bytes are one dossier: they say one thing of a season, of its requests, and of what was published.
+pub fn one_dossier_of_bytes()
+    ensures { OneDossierOfBytes }
 {
     one_season();
     dossier_file::laws::one_dossier();
     dossier_file::laws::texts_are_one();
+}
+
+/// The bytes of a dossier have one verdict, on seasons of the same matrix.
+pub fn one_verdict_of_bytes()
+    ensures { OneVerdictOfBytes }
+{
+    one_dossier_of_bytes();
     audit_rules::laws::one_verdict();
 }
