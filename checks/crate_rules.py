@@ -1,7 +1,7 @@
 """What some crates may not name, and what the office's crates have to name. checks/repository runs it.
 
 - The crates of the audit's first verdict make no round and choose nobody: none of them reaches the engine of rounds by crates.txt, and of the crates that choose
-  their code names only laws and a sort.
+  their code names only laws and a sort. The audit of a special round is above them, and its code names nothing that makes a round or chooses.
 - The office builds on ported crates of the kit and does not write their work anew: each of them is listed and named by a crate that is no test.
 
 It also tries itself: `trial` takes a rule's premise away and says if no fault comes of it."""
@@ -17,6 +17,9 @@ AUDIT = ("list_audit", "audit_rules", "season_audit")
 ENGINE = "apply_engine"
 # the crates that choose, and what the audit's code may name of them: laws run nothing, and people have to be put in merit order
 MAY_NAME = {"merit_choice": {"laws", "in_merit_order"}, "open_then_category": {"laws"}}
+# the audit of a special round, and what its code may name of the crates that make rounds: what final admissions leave, and the replay
+SPECIAL = "special_audit"
+OF_MAKERS = {ENGINE: set(), "best_audit": {"take_next"}, "special_round": {"laws", "left_season", "SpecialFault"}, **MAY_NAME}
 # what the office uses each ported crate for
 USES = {
     "csv": "reads the rows of sections, and writes choice lists with units",
@@ -64,6 +67,8 @@ def apart(deps: Deps, codes: Codes) -> list[str]:
     for crate in AUDIT:
         for other, known in MAY_NAME.items():
             faults += [f"crates/{crate}: its code names {other}::{it}, and an audit chooses nobody" for it in sorted(named_of(other, codes[crate]) - known)]
+    for other, known in OF_MAKERS.items():
+        faults += [f"crates/{SPECIAL}: its code names {other}::{it}, and an audit makes no round" for it in sorted(named_of(other, codes[SPECIAL]) - known)]
     return faults
 
 
@@ -74,13 +79,15 @@ def unused(deps: Deps, codes: Codes) -> list[str]:
 
 
 def trial(deps: Deps, codes: Codes) -> list[str]:
-    """Returns which of these breaks brings no fault: an audit over the engine, an audit that chooses, a ported crate that is only listed."""
+    """Returns which of these breaks brings no fault: an audit over the engine, one that chooses, one that makes a special round, a ported crate that is only listed."""
     above = {**deps, "list_audit": [*deps["list_audit"], ENGINE]}
     choosing = {**codes, "season_audit": codes["season_audit"] + "use merit_choice::{in_merit_order, choose};"}
+    making = {**codes, SPECIAL: codes[SPECIAL] + "use special_round::special_over;"}
     listed = {crate: re.sub(r"\bclap::", "", code) for crate, code in codes.items()}
     tried = {
         "an audit over the engine": sum(f"reaches {ENGINE}," in it for it in apart(above, codes)) == len(AUDIT),
         "an audit that chooses": any("merit_choice::choose," in it for it in apart(deps, choosing)),
+        "an audit that makes a special round": any("special_round::special_over," in it for it in apart(deps, making)),
         "a ported crate that no code names": any("uses clap," in it for it in unused(deps, listed)),
     }
     return [f"checks/crate_rules.py: {what} brings no fault" for what, seen in tried.items() if not seen]

@@ -2,3 +2,4 @@ mod AuditEnds
 mod AuditFaults
 mod BestEnds
 mod OneAudit
+mod OneBest

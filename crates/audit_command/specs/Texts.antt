@@ -13,6 +13,11 @@ use Rattle.audit_rules.specs.declared.verdict.Verdict.{Verdict}
 use Rattle.audit_rules.specs.declared.verdict.Verdict.TheVariants.{Sound, Broken}
 use Rattle.dossier_file.specs.declared.fault.DossierFault.{DossierFault}
 use Rattle.dossier_file.specs.declared.fault.DossierFault.TheVariants.{ReadFault, TooLong, NoSection, Season as BadSeason, Published, OutOfMemory}
+use Rattle.special_command.specs.Texts.{special_fault_line}
+use Rattle.special_audit.specs.declared.found.FoundFault.{FoundFault}
+use Rattle.special_audit.specs.declared.found.FoundFault.TheVariants.{Dossier as BadDossier, Special as BadSpecial}
+use Rattle.special_audit.specs.declared.special.SpecialError.{SpecialError}
+use Rattle.special_audit.specs.declared.special.SpecialError.TheVariants.{Lists, Line, OutOfMemory as NoSpecialMemory}
 
 -- the code of the programme that a clause names, or a dash
 abbrev pub code_or_dash : SeatTable → Option ProgId → List ℕ
@@ -28,10 +33,26 @@ candidate_or_dash (Some cand) = decimal cand.0
 abbrev pub sound_line : ℕ → List ℕ
 sound_line rounds = codes "audit sound rounds " ++ decimal rounds ++ codes "\n"
 
+-- the end of the line of a broken clause: its name, and whom it names
+abbrev pub broken_end : SeatTable → Clause → Option ProgId → Option CandId → List ℕ
+broken_end table clause prog cand = name_of clause ++ codes " " ++ code_or_dash table prog ++ codes " " ++ candidate_or_dash cand ++ codes "\n"
+
 -- the line of a broken clause
 abbrev pub broken_line : SeatTable → ℕ → Clause → Option ProgId → Option CandId → List ℕ
-broken_line table round clause prog cand =
-    codes "audit broken round " ++ decimal round ++ codes " " ++ name_of clause ++ codes " " ++ code_or_dash table prog ++ codes " " ++ candidate_or_dash cand ++ codes "\n"
+broken_line table round clause prog cand = codes "audit broken round " ++ decimal round ++ codes " " ++ broken_end table clause prog cand
+
+-- the line of a sound special round, behind so many sound rounds
+abbrev pub sound_special_line : ℕ → List ℕ
+sound_special_line rounds = codes "audit sound rounds " ++ decimal rounds ++ codes " special\n"
+
+-- the line of a clause that is broken in the special round
+abbrev pub broken_special_line : SeatTable → Clause → Option ProgId → Option CandId → List ℕ
+broken_special_line table clause prog cand = codes "audit broken special " ++ broken_end table clause prog cand
+
+-- the line of a verdict on a special round, behind so many sound rounds
+abbrev pub special_verdict_line : SeatTable → ℕ → Verdict → List ℕ
+special_verdict_line table rounds (Sound number) = sound_special_line rounds
+special_verdict_line table rounds (Broken round clause prog cand) = broken_special_line table clause prog cand
 
 -- the line of a verdict
 abbrev pub verdict_line : SeatTable → Verdict → List ℕ
@@ -50,3 +71,14 @@ dossier_line NoSection = codes "fault: dossier NoSection\n"
 dossier_line (BadSeason fault) = fault_line fault
 dossier_line (Published line) = published_line line
 dossier_line OutOfMemory = memory_line
+
+-- the line that reports why the papers of a special round were not read
+abbrev pub special_line : SpecialError → List ℕ
+special_line (Lists fault) = special_fault_line fault
+special_line (Line line) = codes "fault: special line " ++ decimal line ++ codes "\n"
+special_line NoSpecialMemory = memory_line
+
+-- the line that reports why an audit found nothing
+abbrev pub found_line : FoundFault → List ℕ
+found_line (BadDossier fault) = dossier_line fault
+found_line (BadSpecial fault) = special_line fault

@@ -2,14 +2,16 @@
 ghost use Rattle.std.specs.Prelude.{IfOk};
 ghost use Rattle.command_answers.specs.Answers.{Reads};
 ghost use Rattle.office_base.specs.Visible.{source_of};
-ghost use Rattle.audit_command.specs.Audit.{IsAnswerTo, IsAuditOf, TellsDossierFault, audit_answers};
+ghost use Rattle.audit_command.specs.Audit.{IsAnswerTo, IsAuditOf, TellsFound, audit_answers};
+ghost use Rattle.audit_command.specs.Texts.{special_verdict_line, verdict_line};
 
-use crate::texts::{dossier_text, verdict_text};
+use crate::read::read_found;
+use crate::texts::{special_verdict_text, verdict_text};
 use audit_rules::Verdict;
 use command_answers::Failure;
-use dossier_file::{Dossier, DossierFault};
+use dossier_file::Dossier;
 use office_base::{OutOfMemory, Source, Text};
-use season_audit::audit;
+use special_audit::Found;
 use std::alloc::Global;
 
 /// The result of an audit, with its lines.
@@ -21,39 +23,60 @@ pub enum Audited {
     Broken(Text),
 }
 
-/// Returns the verdict on the dossier that the source gives.
+/// Returns the verdict on the dossier that the source gives, and on the special round behind it.
 pub fn audit_answer<S: Source>(alloc: Global, source: &mut S) -> Result<Audited, Failure>
     ensures { Reads audit_answers IsAuditOf (source_of S.Source source.old)
         (source_of S.Source source.new) result }
 {
-    match Dossier::read(alloc, source) {
-        Ok(dossier) => Ok(verdict_of(alloc, &dossier)?),
-        Err(fault) => Err(dossier_failure(alloc, fault)),
+    match read_found(alloc, source) {
+        Ok(found) => Ok(answer_to(alloc, found)?),
+        Err(failure) => Err(failure),
     }
 }
 
-/// Returns the verdict on a dossier.
-fn verdict_of(alloc: Global, dossier: &Dossier) -> Result<Audited, OutOfMemory>
-    ensures { IfOk result (IsAnswerTo dossier.now) }
+/// Returns the answer that tells what is found.
+fn answer_to(alloc: Global, found: Found) -> Result<Audited, OutOfMemory>
+    ensures { IfOk result (IsAnswerTo found) }
 {
-    let verdict = audit(alloc, dossier)?;
+    match found {
+        Found::OfSeason { dossier, verdict } => season_answer(alloc, &dossier, verdict),
+        Found::OfSpecial {
+            dossier: _dossier,
+            rounds,
+            special,
+            verdict,
+        } => special_answer(alloc, rounds, &special, verdict),
+    }
+}
+
+/// Returns the answer that tells the verdict on a season.
+fn season_answer(alloc: Global, dossier: &Dossier, verdict: Verdict) -> Result<Audited, OutOfMemory>
+    ensures { IfOk result (TellsFound verdict (verdict_line dossier.now.season.matrix verdict)) }
+{
     let line = verdict_text(alloc, &dossier.season.matrix, verdict)?;
-    match verdict {
-        Verdict::Sound { .. } => Ok(Audited::Sound(line)),
-        Verdict::Broken { .. } => Ok(Audited::Broken(line)),
-    }
+    Ok(answer_by(verdict, line))
 }
 
-/// The failure that tells why there is no dossier.
-pub(crate) fn dossier_failure(alloc: Global, fault: DossierFault) -> Failure
-    ensures { TellsDossierFault fault result }
+/// Returns the answer that tells the verdict on a special round, behind so many sound rounds.
+fn special_answer(
+    alloc: Global,
+    rounds: u16,
+    special: &Dossier,
+    verdict: Verdict,
+) -> Result<Audited, OutOfMemory>
+    ensures { IfOk result (TellsFound verdict
+        (special_verdict_line special.now.season.matrix rounds verdict)) }
 {
-    match fault {
-        DossierFault::ReadFault => Failure::Read,
-        DossierFault::OutOfMemory => Failure::NoMemory,
-        _ => match dossier_text(alloc, fault) {
-            Ok(line) => Failure::Bad(line),
-            Err(OutOfMemory) => Failure::NoMemory,
-        },
+    let line = special_verdict_text(alloc, &special.season.matrix, rounds, verdict)?;
+    Ok(answer_by(verdict, line))
+}
+
+/// Returns the answer that tells a verdict by this line.
+fn answer_by(verdict: Verdict, line: Text) -> Audited
+    ensures { TellsFound verdict line result }
+{
+    match verdict {
+        Verdict::Sound { .. } => Audited::Sound(line),
+        Verdict::Broken { .. } => Audited::Broken(line),
     }
 }

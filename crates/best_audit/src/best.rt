@@ -13,8 +13,9 @@ use office_base::OutOfMemory;
 use season_audit::Auditor;
 use std::alloc::Global;
 
-/// Takes the request at this place of a script in which no clause is broken.
-fn take_next(
+/// Takes the request at this place of a script in which no clause is broken, and so reaches the state before the next one.
+/// Fails only when memory runs out.
+pub fn take_next(
     alloc: Global,
     dossier: &Dossier,
     auditor: &mut Auditor,

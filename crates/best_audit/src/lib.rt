@@ -12,5 +12,5 @@ pub mod laws;
 mod sought;
 pub mod verdict;
 
-pub use best::best_rounds;
+pub use best::{best_rounds, take_next};
 pub use verdict::BestVerdict;

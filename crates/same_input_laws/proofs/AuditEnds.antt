@@ -1,21 +1,14 @@
 -- An audit writes the same for the same bytes.
-use Rattle.std.proofs.Common.{◌≡◌, ◌++◌, inl, inr, ℕ, List, Some, refl, sym, ap, ◌∙◌}
-use Rattle.audit_rules.specs.declared.verdict.Verdict.{Verdict}
-use Rattle.audit_rules.specs.declared.verdict.Verdict.TheVariants.{Sound, Broken}
-use Rattle.best_audit.specs.declared.verdict.BestVerdict.{BestVerdict}
-use Rattle.best_audit.specs.declared.verdict.BestVerdict.TheVariants.{Best, NotBest}
-use Rattle.one_output.specs.VerdictLaws.{OneVerdictOfBytes}
+use Rattle.std.proofs.Common.{◌≡◌, inl, inr, ℕ, List, Some, refl, sym, ◌∙◌}
 use Rattle.command_answers.specs.Status.{IsAnswered}
 use Rattle.command_answers.specs.Writes.{Writes}
 use Rattle.command_answers.specs.declared.status.Status.{Status}
 use Rattle.command_answers.specs.declared.status.Status.TheVariants.{Ok as Done, BadInput, Broken as BrokenStatus}
 use Rattle.command_answers.proofs.Answered.{by_answer}
 use Rattle.same_input_laws.proofs.Written.{left_has, whole}
-use Rattle.audit_command.specs.Audit.{AreDossier, HaveOneAudit, IsAuditText, IsBrokenOutput, IsDossierFaultLine, IsSoundOutput, IsVerdictLine}
-use Rattle.audit_command.specs.Best.{AreBestLines, IsBestOutput, IsBestText, IsShortOutput, best_line}
-use Rattle.audit_command.specs.Texts.{sound_line}
+use Rattle.audit_command.specs.Audit.{AreDossier, HaveOneAudit, IsAuditText, IsBrokenOutput, IsDossierFaultLine, IsSoundOutput}
+use Rattle.audit_command.specs.Best.{HaveOneBest, IsBestOutput, IsBestText, IsShortOutput}
 use Rattle.same_input_laws.specs.AuditOutputs.{AuditsAreOne, BestAuditsAreOne}
-use Rattle.same_input_laws.proofs.Dossiers.{Laws, one_best}
 
 -- ---- both
 
@@ -48,66 +41,26 @@ one_end bytes audit Good Short texts status other output again (Less e a) (Less 
 
 -- ---- `audit`
 
--- a dossier of which no clause is broken has no line of a broken one
-sound_not_broken : OneVerdictOfBytes → (bytes output again : List ℕ) → IsSoundOutput bytes output → IsBrokenOutput bytes again → ⊥
-sound_not_broken one bytes output again first second =
-    let e = (one bytes first.1.0 second.4.0 (Sound first.0) (Broken second.0 second.1 second.2 second.3) first.1.1 second.4.1 first.1.2.0.is second.4.2.0.is).0 in
-    absurd (cc e)
-
 audit_ended : (bytes : List ℕ) (status : Status) (text : List ℕ) → IsAnswered status → Writes (IsAuditText (Some bytes)) status text → Ended bytes IsSoundOutput IsBrokenOutput status text
 audit_ended bytes status text answered writes =
     by_answer (λ s. IsAuditText (Some bytes) s text → Ended bytes IsSoundOutput IsBrokenOutput s text) (λ t. Well refl (left_has IsSoundOutput bytes text t)) (λ t. absurd t)
     (λ t. Faulty refl (left_has IsDossierFaultLine bytes text t)) (λ t. absurd t) (λ t. Less refl (left_has IsBrokenOutput bytes text t)) status answered
     (whole (IsAuditText (Some bytes)) status text answered writes)
 
-pub audits_are_one : ((bytes : List ℕ) → HaveOneAudit bytes) → OneVerdictOfBytes → AuditsAreOne
-audits_are_one audit one bytes output again status other answered answered' first second =
+pub audits_are_one : ((bytes : List ℕ) → HaveOneAudit bytes) → AuditsAreOne
+audits_are_one audit bytes output again status other answered answered' first second =
     one_end bytes (audit bytes) IsSoundOutput IsBrokenOutput (record {
       of_good = λ text h. (audit bytes).of_input text (inl h);
       of_short = λ text h. (audit bytes).of_input text (inr h);
       one_good = λ text more h h'. (audit bytes).one_output text more (inl h) (inl h');
       one_short = λ text more h h'. (audit bytes).one_output text more (inr h) (inr h');
-      apart = sound_not_broken one bytes;
+      apart = (audit bytes).one_kind;
     }) status other output again (audit_ended bytes status output answered first) (audit_ended bytes other again answered' second)
 
 -- ---- `audit best`
 
-one_number : (a b : ℕ) → ◌≡◌ {A = Verdict} (Sound a) (Sound b) → a ≡ b
-one_number a b e = cc e
-
-one_lines : OneVerdictOfBytes → Laws → (bytes : List ℕ) (verdict more : BestVerdict) (output again : List ℕ) → AreBestLines bytes verdict output → AreBestLines bytes more again → output ≡ again
-one_lines one laws bytes verdict more output again first second =
-    let a = first.2 in
-    let b = second.2 in
-    let verdicts = one bytes first.0 second.0 (Sound a.rounds) (Sound b.rounds) first.1 second.1 a.sound.is b.sound.is in
-    let rounds = one_number a.rounds b.rounds verdicts.0 in
-    let same = one_best laws bytes first.0 second.0 verdict more first.1 second.1 a.best b.best in
-    a.lines ∙ (ap (λ (n : ℕ). sound_line n ++ best_line verdict) rounds ∙ (ap (λ (v : BestVerdict). sound_line b.rounds ++ best_line v) same ∙ sym b.lines))
-
--- a clause is broken, or none is
-broken_or_not : OneVerdictOfBytes → (bytes : List ℕ) (verdict : Verdict) (more : BestVerdict) (output again : List ℕ) → IsVerdictLine bytes verdict output → AreBestLines bytes more again
-    → (rounds : ℕ) × (verdict ≡ Sound rounds)
-broken_or_not one bytes verdict more output again first second =
-    (second.2.rounds, (one bytes first.0 second.0 verdict (Sound second.2.rounds) first.1 second.1 first.2.0.is second.2.sound.is).0)
-
-one_short : ((bytes : List ℕ) → HaveOneAudit bytes) → OneVerdictOfBytes → Laws → (bytes output again : List ℕ) → IsShortOutput bytes output → IsShortOutput bytes again → output ≡ again
-one_short audit one laws bytes output again (inl first) (inl second) = (audit bytes).one_output output again (inr first) (inr second)
-one_short audit one laws bytes output again (inl first) (inr second) =
-    absurd (let e = (broken_or_not one bytes (Broken first.0 first.1 first.2 first.3) (NotBest second.0 second.1) output again first.4 second.2).1 in cc e)
-one_short audit one laws bytes output again (inr first) (inl second) =
-    absurd (let e = (broken_or_not one bytes (Broken second.0 second.1 second.2 second.3) (NotBest first.0 first.1) again output second.4 first.2).1 in cc e)
-one_short audit one laws bytes output again (inr first) (inr second) =
-    one_lines one laws bytes (NotBest first.0 first.1) (NotBest second.0 second.1) output again first.2 second.2
-
--- bytes of which every round is the best one fall short of nothing
-best_not_short : OneVerdictOfBytes → Laws → (bytes output again : List ℕ) → IsBestOutput bytes output → IsShortOutput bytes again → ⊥
-best_not_short one laws bytes output again first (inl second) =
-    absurd (let e = (broken_or_not one bytes (Broken second.0 second.1 second.2 second.3) Best again output second.4 first).1 in cc e)
-best_not_short one laws bytes output again first (inr second) =
-    absurd (let e = one_best laws bytes first.0 second.2.0 Best (NotBest second.0 second.1) first.1 second.2.1 first.2.best second.2.2.best in cc e)
-
 short_dossier : (bytes text : List ℕ) → IsShortOutput bytes text → AreDossier bytes
-short_dossier bytes text (inl broken) = (broken.4.0, broken.4.1)
+short_dossier bytes text (inl broken) = (broken.0, broken.2.0)
 short_dossier bytes text (inr not_best) = (not_best.2.0, not_best.2.1)
 
 best_ended : (bytes : List ℕ) (status : Status) (text : List ℕ) → IsAnswered status → Writes (IsBestText (Some bytes)) status text → Ended bytes IsBestOutput IsShortOutput status text
@@ -116,12 +69,12 @@ best_ended bytes status text answered writes =
     (λ t. Faulty refl (left_has IsDossierFaultLine bytes text t)) (λ t. absurd t) (λ t. Less refl (left_has IsShortOutput bytes text t)) status answered
     (whole (IsBestText (Some bytes)) status text answered writes)
 
-pub best_audits_are_one : ((bytes : List ℕ) → HaveOneAudit bytes) → OneVerdictOfBytes → Laws → BestAuditsAreOne
-best_audits_are_one audit one laws bytes output again status other answered answered' first second =
+pub best_audits_are_one : ((bytes : List ℕ) → HaveOneAudit bytes) → ((bytes : List ℕ) → HaveOneBest bytes) → BestAuditsAreOne
+best_audits_are_one audit best bytes output again status other answered answered' first second =
     one_end bytes (audit bytes) IsBestOutput IsShortOutput (record {
       of_good = λ text lines. (lines.0, lines.1);
       of_short = short_dossier bytes;
-      one_good = one_lines one laws bytes Best Best;
-      one_short = one_short audit one laws bytes;
-      apart = best_not_short one laws bytes;
+      one_good = (best bytes).one_best;
+      one_short = (best bytes).one_short;
+      apart = (best bytes).one_kind;
     }) status other output again (best_ended bytes status output answered first) (best_ended bytes other again answered' second)

@@ -6,7 +6,6 @@ pub mod Replayed
 pub mod Resumed
 pub mod UnitEnds
 mod SpecialEnds
-mod Remaining
 mod SpecialRounds
 mod Answered
 mod BareStates

@@ -12,7 +12,6 @@ use Rattle.season_facts.specs.Season.{facts_of}
 use Rattle.one_output.specs.Laws.{SeasonsAreSound}
 use Rattle.office_base.specs.Limits.{most_bundle_bytes}
 use Rattle.one_output.specs.VerdictLaws.{OneVerdictOfBytes}
-use Rattle.audit_command.specs.Audit.{HaveOneAudit}
 use Rattle.dossier_file.specs.Split.{IsSplit}
 use Rattle.dossier_file.specs.Dossier.{AreDossier}
 use Rattle.dossier_file.specs.Due.{cuts_accepted, due}
@@ -27,9 +26,9 @@ use Rattle.same_input_laws.proofs.Answered.{answered, counts, ends_history}
 use Rattle.same_input_laws.proofs.OwnPapers.{Laws, papers_are_best, papers_are_sound}
 use Rattle.same_input_laws.proofs.DuePapers.{told}
 
-pub seasons_have_dossiers : Laws → ((bytes : List ℕ) → HaveOneAudit bytes) → OneVerdictOfBytes → dossiers.Laws → SeasonsAreSound → ((facts : SeasonFacts) (entries : List Entry) (state : State) → IsSound facts → Reaches facts opening entries state → IsOrderly facts state)
+pub seasons_have_dossiers : Laws → OneVerdictOfBytes → dossiers.Laws → SeasonsAreSound → ((facts : SeasonFacts) (entries : List Entry) (state : State) → IsSound facts → Reaches facts opening entries state → IsOrderly facts state)
     → ((facts : SeasonFacts) → HistoryGrows facts) → ((facts : SeasonFacts) → EveryRequestIsAnswered facts) → ((facts : SeasonFacts) → PublishedIsRead facts) → SeasonsHaveDossiers
-seasons_have_dossiers laws audit one more sounds orderly grows every reads bundle requests season script of_season of_script =
+seasons_have_dossiers laws one more sounds orderly grows every reads bundle requests season script of_season of_script =
     let facts = facts_of season in
     let sound = sounds false bundle season of_season.row [] of_season.given in
     let start : IsHistory facts [] opening = record { numbers = refl; reached = refl } in
@@ -62,6 +61,6 @@ seasons_have_dossiers laws audit one more sounds orderly grows every reads bundl
             sound = no_clause;
             best = all_best;
             audited = λ bytes short cut.
-                audited_well audit one more bytes (own_dossier laws season script state sound order cuts papers) (is bytes short cut) (length state.rounds) no_clause all_best;
+                audited_well one more bytes (own_dossier laws season script state sound order cuts papers) (is bytes short cut) (length state.rounds) no_clause all_best;
           };
     }

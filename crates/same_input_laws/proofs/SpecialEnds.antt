@@ -1,7 +1,7 @@
 -- `special` writes the same for the same input.
 use Rattle.std.proofs.Common.{◌≡◌, ◌⊎◌, inl, inr, ℕ, List, Option, Some, sym, ◌∙◌, subst}
 use Rattle.section_rows.specs.Rows.{Row}
-use Rattle.slot_cert.specs.Laws.{OneCertificate}
+use Rattle.special_audit.specs.Laws.{OneRemaining}
 use Rattle.list_cutoffs.specs.Laws.{OneListOfCutoffs}
 use Rattle.kept_rows.specs.Tables.{AreTold, Tables, still}
 use Rattle.kept_rows.specs.declared.rows.AllotRow.{AllotRow}
@@ -43,7 +43,7 @@ pub record Laws : Type 0 where
   pub grows : (facts : SeasonFacts) → HistoryGrows facts
   pub orderly : (facts : SeasonFacts) (entries : List Entry) (state : State) → IsSound facts → Reaches facts opening entries state → IsOrderly facts state
   pub known : FinalsAreKnown
-  pub certificate : OneCertificate
+  pub remaining : OneRemaining
   pub lists : (ranks : Ranks) (seats : SeatTable) (rows : List Row) → HaveOneReading ranks seats rows
   pub enter : Enter
   pub round : OneRound
@@ -67,7 +67,7 @@ one_output laws papers bytes facts state kept output again sound replayed (short
     let history = history_replayed facts (laws.grows facts) sound kept state replayed in
     let known = laws.known facts state rows sound (laws.orderly facts history.0 state sound history.1.reached) is.1 in
     let first = made facts table rows bytes a sound is.2 in
-    let are = alike laws.certificate laws.lists laws.enter laws.round facts table rows bytes a b known.rising first (made facts table rows bytes b sound over) in
+    let are = alike laws.remaining laws.lists laws.enter laws.round facts table rows bytes a b known.rising first (made facts table rows bytes b sound over) in
     one_papers laws.cutoffs papers a b output again are (laws.listed facts table rows bytes a first.sound is.2) text text'
 
 -- the bytes have one answer over that state

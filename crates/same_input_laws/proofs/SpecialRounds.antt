@@ -1,11 +1,12 @@
 -- The text of the special round over the same final rows and the same lists is one.
-use Rattle.std.proofs.Common.{◌≡◌, ◌-◌, ◌++◌, ◌∷◌, [], ℕ, suc, List, Some, length, refl, sym, ap, ◌∙◌, subst, arith}
+use Rattle.std.proofs.Common.{◌≡◌, ◌<◌, ◌-◌, ◌++◌, ◌∷◌, [], ℕ, suc, List, Some, length, refl, sym, ap, ◌∙◌, subst, arith}
 use Rattle.std.specs.Prelude.{slice_get}
 use Rattle.std.specs.List.{flat_map}
 use Rattle.office_base.specs.declared.person.Person.{Person}
 use Rattle.office_base.specs.declared.person.ProgId.{ProgId}
 use Rattle.section_rows.specs.Rows.{Row, rows_of}
-use Rattle.slot_cert.specs.Laws.{OneCertificate}
+use Rattle.special_audit.specs.Laws.{OneRemaining}
+use Rattle.office_base.specs.Lists.{Pairwise}
 use Rattle.kept_rows.specs.declared.rows.AllotRow.{AllotRow}
 use Rattle.rank_lists.specs.Register.{Ranks}
 use Rattle.seat_matrix.specs.Matrix.{SeatTable, seats_in}
@@ -31,7 +32,6 @@ use Rattle.special_command.specs.Texts.{AreProgrammeTexts, CanBeListed, IsProgra
 use Rattle.special_command.specs.declared.lists.SpecialPapers.{SpecialPapers}
 use Rattle.special_command.specs.declared.lists.SpecialPapers.TheVariants.{RoundAlone, WithLists}
 use Rattle.published_rounds.proofs.Special.{left_sound}
-use Rattle.same_input_laws.proofs.Remaining.{Rising, one_remaining}
 
 -- ---- a special round
 
@@ -72,13 +72,13 @@ pub record AreAlike (special other : Special) : Type 0 where
   pub register : special.season.register.people ≡ other.season.register.people
 
 -- Special rounds over the same final rows and the same lists are alike.
-pub alike : OneCertificate → ((ranks : Ranks) (seats : SeatTable) (rows : List Row) → HaveOneReading ranks seats rows) → Enter → OneRound → (facts : SeasonFacts) (table : SeatTable)
-    (rows : List AllotRow) (body : List ℕ) (special other : Special) → Rising rows → IsMade facts table rows body special → IsMade facts table rows body other → AreAlike special other
-alike certificate reading enter one facts table rows body special other rising first second =
+pub alike : OneRemaining → ((ranks : Ranks) (seats : SeatTable) (rows : List Row) → HaveOneReading ranks seats rows) → Enter → OneRound → (facts : SeasonFacts) (table : SeatTable)
+    (rows : List AllotRow) (body : List ℕ) (special other : Special) → Pairwise (λ a b. a.cand.0 < b.cand.0) rows → IsMade facts table rows body special → IsMade facts table rows body other → AreAlike special other
+alike remaining reading enter one facts table rows body special other rising first second =
     let people = facts.people in
     let a = special.season in
     let b = other.season in
-    let matrix : a.matrix ≡ b.matrix = one_remaining certificate people rows table a.matrix b.matrix rising first.sound.seats second.sound.seats first.matrix second.matrix in
+    let matrix : a.matrix ≡ b.matrix = remaining people rows table a.matrix b.matrix rising first.sound.seats second.sound.seats first.matrix second.matrix in
     let lists = ap lists_in ((reading (register_of facts) facts.matrix (rows_of body)).one_value a.choices b.choices first.lists second.lists) in
     let by_matrix = subst (λ (t : SeatTable). IsRound facts.version t people (lists_in b.choices) 1 (all_whole people) other.round) (sym matrix) second.round in
     let by_lists = subst (λ (l : List (List ProgId)). IsRound facts.version a.matrix people l 1 (all_whole people) other.round) (sym lists) by_matrix in

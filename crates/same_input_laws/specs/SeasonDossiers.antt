@@ -30,8 +30,9 @@ use Rattle.command_answers.specs.Writes.{Writes}
 use Rattle.command_answers.specs.declared.status.Status.{Status}
 use Rattle.command_answers.specs.declared.status.Status.TheVariants.{Ok as Done}
 use Rattle.audit_command.specs.Audit.{IsAuditText}
-use Rattle.audit_command.specs.Best.{IsBestText, best_line}
+use Rattle.audit_command.specs.Best.{IsBestText, second_line}
 use Rattle.audit_command.specs.Texts.{sound_line}
+use Rattle.audit_command.specs.declared.second.Second.TheVariants.{AllBest}
 use Rattle.best_audit.specs.Best.{IsBestVerdict}
 use Rattle.best_audit.specs.declared.verdict.BestVerdict.TheVariants.{Best}
 
@@ -92,7 +93,7 @@ audited_papers papers = record {
 -- `audit best` also that each round is the best one.
 pub record AreAuditedWell (bytes : List ℕ) (rounds : ℕ) : Type 0 where
   pub audit : (status : Status) (output : List ℕ) → IsAnswered status → Writes (IsAuditText (Some bytes)) status output → (status ≡ Done) × (output ≡ sound_line rounds)
-  pub best : (status : Status) (output : List ℕ) → IsAnswered status → Writes (IsBestText (Some bytes)) status output → (status ≡ Done) × (output ≡ sound_line rounds ++ best_line Best)
+  pub best : (status : Status) (output : List ℕ) → IsAnswered status → Writes (IsBestText (Some bytes)) status output → (status ≡ Done) × (output ≡ sound_line rounds ++ second_line AllBest)
 
 -- What the office published in a state is a dossier of the season with these requests.
 pub record IsOwnDossier (bundle requests : List ℕ) (season : Season) (script : List Request) (state : State) : Type 0 where

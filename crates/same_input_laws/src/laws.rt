@@ -75,7 +75,7 @@ pub fn specials_are_one()
     history_laws::laws::history_grows();
     history_laws::laws::orderly();
     special_round::laws::finals_are_known();
-    slot_cert::laws::one_certificate();
+    special_audit::laws::one_remaining_matrix();
     choice_lists::laws::one_reading();
     round_laws::laws::enter();
     round_laws::laws::one_round();
@@ -90,11 +90,7 @@ pub fn audits_are_one()
     ensures { EachAuditIsOne }
 {
     audit_command::laws::one_audit();
-    one_output::laws::one_verdict_of_bytes();
-    one_output::laws::one_season();
-    dossier_file::laws::one_dossier();
-    dossier_file::laws::texts_are_one();
-    best_audit::laws::one_best_verdict();
+    audit_command::laws::one_best();
 }
 
 /// Each season with its requests has a dossier: every text that is due exists, says what the office holds, and an audit finds no
@@ -112,7 +108,6 @@ pub fn seasons_have_dossiers()
     axiom_laws::laws::axioms_are_the_rule();
     open_then_category::laws::one_programme_choice();
     round_laws::laws::choose_well();
-    audit_command::laws::one_audit();
     one_output::laws::one_verdict_of_bytes();
     dossier_file::laws::one_dossier();
     dossier_file::laws::texts_are_one();

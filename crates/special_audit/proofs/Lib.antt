@@ -1,0 +1,4 @@
+mod Remaining
+mod Over
+mod Reading
+pub mod OneFinding

@@ -1,0 +1,3 @@
+pub mod Special
+pub mod Found
+pub mod Laws
