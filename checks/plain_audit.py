@@ -17,6 +17,7 @@ import sys
 
 from plain_office import STAYS, STEPS, TRAITS, Office, Round, Season, greatest
 from plain_scripts import is_request
+from plain_special import read_lists, season_left
 
 MOST_INPUT = 134_217_728
 MOST_32_BITS = 4_294_967_295
@@ -57,6 +58,16 @@ def parts_of(given):
             if not names:
                 return given[: marks[0]], given[marks[1] : marks[2]], given[marks[3] :]
     raise Fault("dossier NoSection")
+
+
+def special_parts_of(published):
+    """What is published of the season, and behind it the lists and the texts of a special round; nothing if one of their section lines is missing."""
+    marks, names = [], [b"[lists]", b"[special]"]
+    for at, end, line in lines_of(published):
+        if names and title(line) == names[0]:
+            marks += [at, end]
+            names.pop(0)
+    return None if names else (published[: marks[0]], published[marks[1] : marks[2]], published[marks[3] :])
 
 
 # ---- the season and its script
@@ -212,7 +223,7 @@ class Papers:
             yield rows_text(season, words("final"), "admit", "end final", self.finals)
 
 
-def papers_of(season, cuts, published):
+def papers_of(season, cuts, published, name="published"):
     """What is published, or the first line with which it begins nothing that may be."""
     papers, number = Papers(season, cuts), 0
     lines = iter([it.decode("latin-1") for _, _, it in lines_of(published)])
@@ -221,16 +232,16 @@ def papers_of(season, cuts, published):
         while form is not None:
             number, line = number + 1, next(lines, "")
             if not line.endswith("\n"):
-                raise Fault(f"published line {number + 1 if line and could_fit(form, line) else number}")
+                raise Fault(f"{name} line {number + 1 if line and could_fit(form, line) else number}")
             line = line[:-1]
             if not fits(form, line):
-                raise Fault(f"published line {number}")
+                raise Fault(f"{name} line {number}")
             try:
                 form = text.send(line)
             except StopIteration:
                 form = None
     if next(lines, None) is not None:
-        raise Fault(f"published line {number + 1}")
+        raise Fault(f"{name} line {number + 1}")
     return papers
 
 
@@ -265,7 +276,7 @@ class Audited(Office):
             if window < self.season.rounds:
                 found = Published(self.papers.rounds[window], self.papers.lists[window])
                 self.broken = next(broken_in(self, found), None)
-                if self.is_best and not self.worse:
+                if self.is_best and not self.broken and not self.worse:
                     self.worse = next(((window + 1, cand) for cand in self.gainers(found)), None)
                 self.rounds.append(found)
             elif self.papers.finals != self.admitted():
@@ -371,30 +382,79 @@ def honoured(people, protections):
     return greatest(tuple(few), protections)
 
 
+# ---- the special round
+
+
+def special_of(office, lists, published):
+    """The season that the final admissions left, and the papers of its one round; or the first fault of the lists, and then of the texts."""
+    if office.cuts <= office.season.rounds:
+        raise Fault(f"special NotFinal now {office.cuts}")
+    choices, fault = read_lists(office, lists.decode(errors="replace").removeprefix("\ufeff"))
+    if fault:
+        raise Fault(fault.removeprefix("fault: ").removesuffix("\n"))
+    season = season_left(office, choices)
+    return season, papers_of(season, 1, published, "special")
+
+
 # ---- the verdict
+
+
+def read(given):
+    """A season, its script and its papers, and the lists and the texts of the special round behind them, if there is one."""
+    bundle, requests, published = parts_of(given)
+    season = season_of(bundle)
+    rows = script_of(requests)
+    cuts = cuts_of(season, rows)
+    try:
+        return season, rows, papers_of(season, cuts, published), None
+    except Fault:
+        behind = special_parts_of(published)
+        if not behind:
+            raise
+    return season, rows, papers_of(season, cuts, behind[0]), behind[1:]
+
+
+def replayed(season, rows, papers, is_best):
+    """The office after the rows of a script, or at the first clause that is broken."""
+    office = Audited(season, papers, is_best)
+    for row in rows:
+        office.reply(",".join(row))
+        if office.broken:
+            break
+    return office
+
+
+def second_line(office, special):
+    """The second line: whether each round is the best one, the special round last; and the status."""
+    if office.worse:
+        return b"not best round %d %d\n" % (office.worse[0], int(office.worse[1])), 10
+    if special and special.worse:
+        return b"not best special %d\n" % int(special.worse[1]), 10
+    return b"best\n", 0
+
+
+def judged(given, is_best):
+    """The verdict on bytes that have no fault, and maybe the second one."""
+    season, rows, papers, behind = read(given)
+    office, special = replayed(season, rows, papers, is_best), None
+    if office.broken:
+        return f"audit broken round {office.cuts} {office.broken}\n".encode(), 10
+    if behind:
+        left, round_papers = special_of(office, *behind)
+        special = replayed(left, [["cut", "clerk", "0"]], round_papers, is_best)
+        if special.broken:
+            return f"audit broken special {special.broken}\n".encode(), 10
+    sound = f"audit sound rounds {len(papers.rounds)}{' special' if behind else ''}\n".encode()
+    second, status = second_line(office, special) if is_best else (b"", 0)
+    return sound + second, status
 
 
 def verdict(given, is_best=False):
     """What the audit of a dossier comes to: its line, and the status; with a second line on whether each round is the best one, where that is asked."""
     try:
-        bundle, requests, published = parts_of(given)
-        season = season_of(bundle)
-        rows = script_of(requests)
-        cuts = cuts_of(season, rows)
-        papers = papers_of(season, cuts, published)
+        return judged(given, is_best)
     except Fault as fault:
         return f"fault: {fault}\n".encode(), 3
-    office = Audited(season, papers, is_best)
-    for row in rows:
-        office.reply(",".join(row))
-        if office.broken:
-            return f"audit broken round {office.cuts} {office.broken}\n".encode(), 10
-    sound = f"audit sound rounds {len(papers.rounds)}\n".encode()
-    if not is_best:
-        return sound, 0
-    if office.worse:
-        return sound + b"not best round %d %d\n" % (office.worse[0], int(office.worse[1])), 10
-    return sound + b"best\n", 0
 
 
 def main() -> int:

@@ -10,7 +10,7 @@ import sys
 from cases import SECONDS, called, first_difference
 from plain_audit import MOST_INPUT, applies, verdict
 from plain_office import STEPS, Office, Season, certificate
-from plain_special import drawn_season
+from plain_special import drawn_lists, drawn_season, read_lists, season_left
 
 TOP = os.path.dirname(os.path.dirname(os.path.realpath(__file__)))
 OF_BUNDLE = runpy.run_path(f"{TOP}/tools/dossier")["of_bundle"]
@@ -54,6 +54,22 @@ class Dossier:
         sought, given = {it.id: office.sought(it.id) for it in self.season.people}, office.seats()
         self.texts[at] = self.round_lines(at, seats, {code: [*lists_for(self.season, given, code, sought, seats)] for code in self.season.programmes})
         return self.given()
+
+
+class Special(Dossier):
+    """The dossier of a season that is over, with the special round behind it, which can be damaged: the season that the final admissions left, and what the plain office publishes for it."""
+
+    def __init__(self, dossier, lists, choices):
+        self.front, self.handed_in = dossier.given(), lists
+        self.season, self.before, self.last = season_left(dossier.office, choices), [(0, [], [])], []
+        self.office = Office(self.season)
+        self.office.reply("cut,clerk,0")
+        self.rounds = [(dict(it.seats), {code: [*lists] for code, lists in it.lists.items()}) for it in self.office.rounds]
+        self.texts = [self.round_lines(at, *it) for at, it in enumerate(self.rounds)]
+
+    def given(self, lines=None):
+        lines = self.published() if lines is None else lines
+        return self.front + f"[lists]\n{self.handed_in}[special]\n{''.join(f'{it}{chr(10)}' for it in lines)}".encode()
 
 
 def list_lines(number, code, lists):
@@ -293,7 +309,9 @@ def season_broken(draw, dossier):
 
 DAMAGES = (nothing, quoted, seats_changed, seats_changed, round_changed, best_handed_on, best_handed_on, nobody_stays, line_changed, line_changed, cut_short, number_changed, letter_changed, order_changed, final_changed, season_changed, season_broken)
 CLAUSES = ("NotSought", "Fell", "Unlisted", "WrongNumbers", "NotCandidate", "WrongSize", "BadCertificate", "Overtaken", "FinalDiffers")
-FAULTS = ("dossier NoSection", "bundle NotUtf8", "bundle BadFirstLine", "bundle line", "season row", "choices row", "requests row", "published line")
+DAMAGES_OF_SPECIAL = (nothing, seats_changed, seats_changed, round_changed, best_handed_on, best_handed_on, line_changed, cut_short, number_changed, letter_changed, order_changed)
+CLAUSES_OF_SPECIAL = tuple(it for it in CLAUSES if it not in ("Fell", "FinalDiffers"))
+FAULTS = ("dossier NoSection", "bundle NotUtf8", "bundle BadFirstLine", "bundle line", "season row", "choices row", "requests row", "published line", "special NotFinal", "special row", "special line")
 
 
 def drawn_dossiers(draw, in_order, seasons, count):
@@ -308,10 +326,27 @@ def drawn_dossiers(draw, in_order, seasons, count):
     return found
 
 
+def drawn_specials(draw, in_order, seasons, count):
+    """The same with a special round behind each season, which is damaged in one place or in none; now and then the season is not over, or the lists have a fault."""
+    found = []
+    for number in range(seasons):
+        text = drawn_season(draw, in_order)
+        lists = drawn_lists(draw, in_order, Dossier(text).office)
+        text = text.removesuffix("\n").rpartition("cut,clerk")[0] if draw.below(20) == 0 else text
+        for other in range(count):
+            dossier, damage = Dossier(text), DAMAGES_OF_SPECIAL[draw.below(len(DAMAGES_OF_SPECIAL))]
+            choices, _ = read_lists(dossier.office, lists)
+            special = Special(dossier, lists, choices or {})
+            given = damage(draw, special) or special.given()
+            found.append((f"special round {number}.{other} ({damage.__name__})", given, *verdict(given)))
+    return found
+
+
 def lacking(dossiers):
     """Which clause or fault none of the dossiers has."""
     told = [wrote.decode() for _, _, wrote, _ in dossiers]
-    lost = [it for it in CLAUSES if not any(f" {it} " in line for line in told)] + [it for it in FAULTS if not any(line.startswith(f"fault: {it}") for line in told)]
+    lost = [f"special {it}" for it in CLAUSES_OF_SPECIAL if not any(f"broken special {it} " in line for line in told)]
+    lost += [it for it in CLAUSES if not any(f" {it} " in line for line in told)] + [it for it in FAULTS if not any(line.startswith(f"fault: {it}") for line in told)]
     return f"drawn dossiers: none has {', '.join(lost)}" if lost else None
 
 
@@ -356,7 +391,7 @@ def fault_of_own(program: str, label: str, given: bytes) -> str | None:
         return None
     season, _, published = re.sub(r"^(\[\w+\]),*\r?$", r"\1", given.decode(), flags=re.M).partition("[published]\n")
     # no field of a drawn season has a comma or a quotation mark in it, and the plain office reads none that is quoted
-    own, found = (without_lists(it) for it in (Dossier(season.replace('"', "")).published(), published.split("\n")))
+    own, found = (without_lists(it) for it in (Dossier(season.replace('"', "")).published(), published.partition("[lists]\n")[0].split("\n")))
     return None if own == found else f"{label}: {wrote.decode().split()} of rounds and final admissions that are not the office's"
 
 

@@ -453,6 +453,7 @@ def trials(program, texts, drawn):
     for count, seed in ((2, 1), (40, 7)):
         yield functools.partial(fault_of_summary, program, count, seed)
     dossiers = plain_dossiers.drawn_dossiers(Draw(5), in_order, drawn.dossiers, 20)
+    dossiers += plain_dossiers.drawn_specials(Draw(8), in_order, drawn.dossiers, 20)
     if drawn == ALL:
         yield lambda: plain_dossiers.lacking(dossiers)
         yield functools.partial(plain_dossiers.fault_of_length, program)
