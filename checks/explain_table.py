@@ -59,6 +59,7 @@ FORMS = {
     "special row N Admitted": r"candidate is `\d+`: a candidate with a final admission",
     "dossier NoSection": r"a line \[requests\] and after it a line \[published\]",
     "published line N": r"(line \d+, line \d+ after \[published\]: `.*|the input ends before)\na published text that may come here",
+    "special line N": r"(line \d+, line \d+ after \[special\]: `.*|the input ends before)\na published text that may come here",
     "keeper holds a season": "`resume` continues it",
     "keeper holds no season": "`run` begins a season",
     r"stray (raise|answer) N": "the kept records do not agree",

@@ -88,6 +88,12 @@ def split_at(data, name):
     return data, None, 0
 
 
+def without_special(published):
+    """Returns the published texts of a season without the sections of a special round behind them."""
+    texts, lists, _ = split_at(published, "lists")
+    return published if lists is None or split_at(lists, "special")[1] is None else texts
+
+
 # ---- rows
 
 

@@ -5,7 +5,7 @@ import csv
 import re
 from typing import Dict, List, NamedTuple, Optional
 
-from bundles import numbered_rows, sections, split_at
+from bundles import numbered_rows, sections, split_at, without_special
 from formats import ALLOWED, CATEGORIES, HEADERS, LISTS, NUMBER, OTHER_WORDS, SEATS, TRAITS
 from formats import STEPS as STEPS_OF_MATRIX
 
@@ -334,7 +334,7 @@ def parts_of(file: str, data: bytes) -> tuple:
         raise Wrong(f"{file}, line 1: `{data[:40].decode(errors='replace').splitlines()[0] if data.strip() else ''}`: a dossier begins with `office bundle 1` or `office bundle 2`")
     if rest is None or published is None:
         raise Wrong(f"{file}: this is no dossier, because a line [requests] and after it a line [published] are needed: tools/dossier makes it of a bundle or a store")
-    return bundle, requests, published, first + second - 1
+    return bundle, requests, without_special(published), first + second - 1
 
 
 def rounds_of(rows: Rows) -> int:

@@ -105,6 +105,14 @@ def is_store(path):
         return it.read(16) == b"SQLite format 3\0"
 
 
+# ---- a special round
+
+
+def with_special(dossier, lists, wrote):
+    """Returns a dossier with a special round behind it: the lists that `special lists` was given, and the round and the lists that it wrote."""
+    return ended(dossier) + b"[lists]\n" + ended(lists) + b"[special]\n" + published(wrote)
+
+
 # ---- tokens
 
 
