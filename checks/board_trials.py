@@ -91,6 +91,8 @@ def of_papers(room: str) -> Iterator[str]:
         yield f"examples/board-sheets: tokens.csv begins with {tokens[0]} and {tokens[2][2:]}"
     if ["institute", "NITS", "National Institute of Technology, Surathkal"] not in names:
         yield f"examples/board-sheets: names.csv has {names[:2]}"
+    if ["rank", "1-240000", "Rank SC"] not in names:
+        yield f"examples/board-sheets: names.csv does not say where the ranks of a list begin: {names[-3:]}"
 
 
 def with_one_more(room: str, before: bytes) -> Iterator[str]:
@@ -98,7 +100,11 @@ def with_one_more(room: str, before: bytes) -> Iterator[str]:
     rows = rows_of(f"{room}/register.csv")
     rows.insert(5, ["0", "990000000001", "New Person", "GEN", "Male", "No", "Goa", "Goa", "3", *[""] * 6])
     put_file(f"{room}/register.csv", written(rows))
+    put_file(f"{room}/names.csv", written([*rows_of(f"{room}/names.csv"), ["rank", "1-99000", "before"], ["list", "1", "JEE"]]))
     after, said, status = season("--yes=women-D", room)
+    kept = [row[1:] for row in rows_of(f"{room}/names.csv") if row[0] in ("rank", "list")]
+    if kept != [["1-230000", "Rank OBC-NCL"], ["1-240000", "Rank SC"], ["1-250000", "Rank CRL-PwD"], ["1", "JEE"]]:
+        yield f"examples/board-sheets: with one candidate more names.csv has {kept}"
     lost = {*before.split(b"\n")} - {*after.split(b"\n")}
     if status or lost or b"\n49,GEN,-," not in after:
         yield f"examples/board-sheets: with one candidate more the status is {status}, and lines are lost: {[*lost][:2]} {said[-200:]}"

@@ -201,6 +201,9 @@ def script_counts(program, folder):
     status, wrote = script("counts", [folder], program)
     tally.holds(status == 0 and "window 2: 4 seats are offered" in wrote, "counts of the newest copy", f"{status} {wrote}")
     tally.holds("1 answered in this window: freeze 1, float 0" in wrote and "3 answered in an earlier" in wrote and "0 have no answer" in wrote, "counts of answers", wrote)
+    status, wrote = script("counts", [folder, "--json"], program)
+    told = json.loads(wrote)
+    tally.same((status, told["unanswered"], told["who"]), (0, 0, []), "counts as one object, with who has not answered")
     status, wrote = script("counts", [f"{folder}/none"], program)
     tally.holds(status == 1, "counts without a copy", f"{status} {wrote}")
 
@@ -386,7 +389,7 @@ def followed(room, program, told):
         try:
             until(lambda: os.path.exists(f"{folder}/programmes.json"), "the papers before the first cut")
             there = sorted(it for it in os.listdir(folder) if not it.endswith(".gz"))
-            tally.same(there, ["help.json", "index.html", "names.json", "notice.txt", "programmes.json", "window.json"], "papers before the first cut")
+            tally.same(there, ["help.json", "index.html", "names.json", "notice.txt", "numbers.json", "programmes.json", "window.json"], "papers before the first cut")
             tally.holds("No round is published yet" in text_of(f"{folder}/index.html"), "the index before the first cut")
             directly(office, "POST", "/v1/cut", CLERK, CUT)
             until(lambda: '"published": 1' in text_of(f"{folder}/programmes.json"), "the papers after a cut")
@@ -417,7 +420,7 @@ def mocked(room, program):
     tally.holds(status == 0 and same, "a mock round of a bundle from the standard input", f"{status} {wrote}")
     tally.same(text_of(f"{room}/mock/mock-round.txt"), replies.partition("\n")[2], "the mock round is the text of run")
     there = sorted(os.listdir(f"{room}/mock"))
-    tally.holds({"mock-lists.txt", "mock-institute-I0.txt", "mock-round.txt.gz"} <= set(there) and all(it.startswith("mock-") for it in there), "files of a mock round", f"{there[:8]}")
+    tally.holds({"mock-lists.txt", "mock-institute-I0.txt", "mock-round.txt.gz"} <= set(there) and all(it.startswith(("mock-", "index.html")) for it in there), "files of a mock round", f"{there[:8]}")
     all_of_it = "".join(text_of(f"{room}/mock/{it}") for it in there if not it.endswith(".gz"))
     tally.holds(not any(it in all_of_it for it in tokens_of(bundle)), "no token in the papers of a mock round")
 
@@ -456,6 +459,9 @@ def agree(folder, replies, bundle, lists):
     tally.holds(all(os.stat(f"{folder}/{it}").st_mode & 0o777 == 0o644 for it in there), f"{label}: everybody may read the papers")
 
 
+HEAD = "candidate,token,application_number\n"
+
+
 @part("what the clerk announces")
 def announced(room, program):
     later = (datetime.datetime.now(datetime.timezone.utc) + datetime.timedelta(days=1)).isoformat(timespec="minutes")
@@ -463,10 +469,10 @@ def announced(room, program):
     told = json.loads(text_of(f"{room}/window.json"))
     tally.holds(status == 0 and told["window"] == 1 and datetime.datetime.fromisoformat(told["closes"]).tzinfo, "the end of a window", f"{status} {wrote}")
     with open(f"{room}/names.csv", "w", encoding="utf-8") as it:
-        it.write("programme,A,Computer Science\n\ninstitute,I1,\"Indian Institute, Roorkee\"\nprogramme,B,भौतिकी\nboard,,The Board\nshort,A,\"CSE, Roorkee\"\nlist,1,JEE (Advanced)\n")
+        it.write("programme,A,Computer Science\n\ninstitute,I1,\"Indian Institute, Roorkee\"\nprogramme,B,भौतिकी\nboard,,The Board\nshort,A,\"CSE, Roorkee\"\nlist,1,JEE (Advanced)\nrank,1-240000,Rank OBC\n")
     status, wrote = script("announce", [room, "names", f"{room}/names.csv"], program)
     wanted = {"programmes": {"A": "Computer Science", "B": "भौतिकी"}, "institutes": {"I1": "Indian Institute, Roorkee"}, "board": "The Board"}
-    wanted |= {"short": {"A": "CSE, Roorkee"}, "lists": {"1": "JEE (Advanced)"}}
+    wanted |= {"short": {"A": "CSE, Roorkee"}, "lists": {"1": "JEE (Advanced)"}, "ranks": {"1-240000": "Rank OBC"}}
     tally.holds(status == 0 and json.loads(text_of(f"{room}/names.json")) == wanted, "names of codes", f"{status} {wrote}")
     status, wrote = script("announce", [room, "help", "mailto:help@board.example", "Call 011", "011 पर फ़ोन करें"], program)
     wanted = {"text": "Call 011", "hi": "011 पर फ़ोन करें", "url": "mailto:help@board.example"}
@@ -480,8 +486,14 @@ def announced(room, program):
         ("no window", ["window", "-1", later]),
         ("a code twice", ["names", f"{room}/twice.csv"]),
         ("a row of another kind", ["names", f"{room}/kind.csv"]),
+        ("a rank of no place", ["names", f"{room}/rank.csv"]),
+        ("a short token", ["numbers", f"{room}/short.csv"]),
+        ("an application number twice", ["numbers", f"{room}/number.csv"]),
+        ("a file of tokens without application numbers", ["numbers", f"{room}/kind.csv"]),
     ]:
-        for name, text in (("twice", "programme,A,x\nprogramme,A,y\n"), ("kind", "course,A,x\n")):
+        given = {"twice": "programme,A,x\nprogramme,A,y\n", "kind": "course,A,x\n", "rank": "rank,1-0,x\n"}
+        given |= {"short": f"{HEAD}1,abcdefgh1234567,A1\n", "number": f"{HEAD}1,abcdefgh12345678,A-1\n2,abcdefgh12345679,a1\n"}
+        for name, text in given.items():
             with open(f"{room}/{name}.csv", "w", encoding="utf-8") as it:
                 it.write(text)
         status, wrote = script("announce", [room, *words], program)
@@ -490,6 +502,28 @@ def announced(room, program):
     status, wrote = script("announce", [room, "remove", "window.json"], program)
     tally.holds(status == 0 and text_of(f"{room}/window.json") == "{}", "announce empties a paper", f"{status} {wrote}")
     tally.same(script("announce", [room, "remove", "names.csv"], program)[0], 2, "announce removes only papers")
+    announced_numbers(room, program)
+
+
+def announced_numbers(room, program):
+    """The paper about application numbers: who has number and token finds the candidate, the paper shows neither, and one of before goes."""
+    people = {it: (f"26-{it:010}", f"{it:05}abcdefghijk") for it in range(1, 1201)}
+    with open(f"{room}/tokens.csv", "w", encoding="utf-8") as it:
+        it.write(f"{HEAD}clerk,abcdefgh12345678,\n" + "".join(f"{one},{token},{number}\n" for one, (number, token) in people.items()))
+    for _ in range(2):
+        status, wrote = script("announce", [room, "numbers", f"{room}/tokens.csv"], program)
+        tally.holds(status == 0 and "1200 candidates" in wrote, "application numbers", f"{status} {wrote}")
+    told = json.loads(text_of(f"{room}/numbers.json"))
+    tally.same((os.listdir(f"{room}/numbers"), told["digits"], told["letters"]), ([told["salt"]], 1, False), "one paper is there, in parts")
+    parts = {it: json.loads(text_of(f"{room}/numbers/{told['salt']}/{it}.json")) for it in "0123456789abcdef"}
+    for one in (1, 600, 1200):
+        number, token = people[one]
+        key = hashlib.pbkdf2_hmac("sha256", token.encode(), (told["salt"] + number.replace("-", "")).encode(), 1000, 8).hex()
+        tally.same(parts[key[0]].get(key[1:]), one, f"number and token of candidate {one} find the candidate")
+    all_of_it = json.dumps(parts)
+    tally.holds(not any(number[3:] in all_of_it or token in all_of_it for number, token in people.values()), "no application number and no token is in it")
+    status, wrote = script("announce", [room, "remove", "numbers.json"], program)
+    tally.same((status, text_of(f"{room}/numbers.json"), os.listdir(f"{room}/numbers")), (0, "{}", []), "announce removes the parts too")
 
 
 # what run-office runs in place of the office: it says that its store failed, or not, and then ends or waits

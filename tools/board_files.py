@@ -16,7 +16,8 @@ SECRET_COLUMNS = ("token",)
 REPORT_COLUMNS = ("institute", "date", "place")
 MOST_NAME = 200
 # what a row names, and the form of its code
-KINDS = {"programme": "[A-Za-z0-9-]{1,16}", "institute": "[A-Za-z0-9-]{1,16}", "list": "[1-4]", "board": "", "season": ""}
+CODES = "[A-Za-z0-9-]{1,16}"
+KINDS = {"programme": CODES, "institute": CODES, "short": CODES, "list": "[1-4]", "rank": "[1-4]-[1-9][0-9]{0,6}", "board": "", "season": ""}
 
 
 class Columns(NamedTuple):
@@ -133,7 +134,7 @@ class Names(NamedTuple):
 
 
 NO_NAMES = Names({}, {}, {}, "", "")
-NAME_ROWS = "a row is `programme,CODE,NAME`, `institute,CODE,NAME`, `list,NUMBER,NAME`, `board,,NAME` or `season,,NAME`"
+NAME_ROWS = "a row is `programme,CODE,NAME`, `institute,CODE,NAME`, `short,CODE,NAME`, `list,NUMBER,NAME`, `rank,LIST-PLACE,NAME`, `board,,NAME` or `season,,NAME`"
 
 
 def names(path: str) -> Names:

@@ -100,16 +100,17 @@ def names_of(matrix: Any) -> list:
     return rows
 
 
-def write_names(path: str, matrix: Any) -> str:
-    """Writes the names of codes if the matrix has some; names that the file has already stay. Returns a line for the report."""
-    rows = names_of(matrix)
+def write_names(path: str, matrix: Any, ranks: list) -> str:
+    """Writes the names of codes and of the lists of ranks, if there are some. Names that the file has already stay, unless their ranks begin elsewhere now. Returns a line
+    for the report."""
+    rows = [*names_of(matrix), *ranks]
     if not rows:
         return ""
     before = read(os.path.dirname(path) or ".", os.path.basename(path), (), Findings(set())) if os.path.exists(path) else None
-    kept = [fields for _, fields in before or []]
-    known = {(*map(stripped, fields[:2]),) for fields in kept}
-    more = [row for row in rows if (row[0], row[1]) not in known]
-    if more:
+    known = [((*map(stripped, fields[:2]),), fields) for _, fields in before or []]
+    kept = [fields for key, fields in known if key[0] != "rank" or key[1] in {it[1] for it in ranks}]
+    more = [row for row in rows if (row[0], row[1]) not in {key for key, _ in known}]
+    if more or len(kept) < len(known):
         put_file(path, written([*kept, *more]))
     how = f", where {counted(len(kept), 'row')} stayed" if kept else ""
-    return f"the names of institutes and programmes, with the codes of the bundle: {path}{how}; for `deploy/announce FOLDER names`"
+    return f"the names of institutes, programmes and lists of ranks, with the codes of the bundle: {path}{how}; for `deploy/announce FOLDER names`"

@@ -117,6 +117,12 @@ def give_places(name: str, people: list, findings: Findings, file: str) -> list:
     return [*lines(name, counts, first, heading(people))]
 
 
+def rank_rows(number: int, people: list) -> list:
+    """Returns the rows of names.csv that say behind which place of a merit list the places are ranks in another list, and what that list is called."""
+    columns = heading(people)
+    return [["rank", f"{number}-{first}", columns[of]] for of, first in (begins(people) or {}).items()]
+
+
 def heading(people: list) -> dict:
     """Returns the column of each list, as the sheet calls it."""
     found: dict = {}

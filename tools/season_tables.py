@@ -5,7 +5,7 @@ from typing import Any, Iterable, Optional
 
 from formats import ALL_CHOICES, ALLOWED, CANDIDATES, CHOICES, MERIT_LISTS, NUMBER, ROUNDS, TOKEN, TRAITS, listed
 from season_columns import CHOICE
-from season_ranks import cells_of, give_places, lists_of, read_ranks
+from season_ranks import cells_of, give_places, lists_of, rank_rows, read_ranks
 from season_seats import Matrix
 from season_words import application, bare, category, code, gender, has_trait, is_code, number, place, state, traits
 from spreadsheets import Cell, Findings, Table, counted, letters, read_table, some, stripped
@@ -131,6 +131,10 @@ class Register:
 
     def lists_by_name(self) -> list:
         return [it for it in MERIT_LISTS if lists_of(it, self.table)] if self.table else []
+
+    def rank_rows(self) -> list:
+        """Returns the rows of names.csv on the places that are ranks in another list."""
+        return [row for name, people in self.ranked.items() for row in rank_rows(MERIT_LISTS.index(name) + 1, people)]
 
     def lists(self) -> list:
         """Returns the numbers of the merit lists of which the register has a column."""

@@ -3,7 +3,7 @@ import { serverTime } from "./ask.js";
 import { readPlace } from "./cutoffs.js";
 import { el, show, verbatim } from "./dom.js";
 import { lineOf, receiptsOf } from "./rule.js";
-import { contact, instituteName, instituteOf, listName, programmeName, programmeOf, seasonTitles } from "./season.js";
+import { contact, instituteName, instituteOf, listName, programmeName, programmeOf, rankOf, seasonTitles } from "./season.js";
 import { CATEGORIES, ENTRY, HOLDS, HOLDS_NOTHING, kindOfSeat, LETTER, NOT_DISABILITY } from "./words.js";
 
 const TOUCHES = ["pointerdown", "keydown"];
@@ -12,7 +12,7 @@ const TOUCHES = ["pointerdown", "keydown"];
 const byHand = () => el("span", { class: "by-hand" }, LETTER.byHand);
 
 /** The rows of a letter. Those of which the papers say nothing are left out. */
-function rowsOf({ cand, seat, entry, answers, end }, standing, help) {
+function rowsOf({ cand, application, seat, entry, answers, end }, standing, help) {
   const { fields } = LETTER;
   const [board, season] = seasonTitles();
   const programme = programmeOf(seat.programme);
@@ -23,13 +23,13 @@ function rowsOf({ cand, seat, entry, answers, end }, standing, help) {
     [fields.season, season],
     [fields.candidate, cand],
     [fields.name, byHand()],
-    [fields.application, byHand()],
+    [fields.application, application ?? byHand()],
     [fields.programme, el("strong", {}, programmeName(seat.programme))],
     [fields.institute, instituteOf(seat.programme) && instituteName(instituteOf(seat.programme))],
     [fields.kind, kindOfSeat(seat.step)],
     [fields.category, CATEGORIES[entry.category] ?? entry.category],
     [fields.traits, [...entry.traits].map((it) => HOLDS[it] ?? it).join(", ") || HOLDS_NOTHING],
-    [fields.place(programme && listName(programme.list)), place && ENTRY.place(place.place, place.isCommon)],
+    [fields.place(programme && listName(programme.list)), place && ENTRY.place(place.place, place.isCommon, rankOf(programme.list, place.place))],
     [fields.round, seat.round],
     [fields.standing, standing],
     [fields.end, end && LETTER.time(end)],

@@ -2,7 +2,7 @@
 import { askState, freshPaper, jsonPaper, serverTime } from "./ask.js";
 import { details, el, offerCodes, ownWords, say, show, verbatim } from "./dom.js";
 import { lineOf } from "./rule.js";
-import { ASKING, called, CLOSES, ENTRY, HELP, NOTICE, OWN_WORDS, named, phase, trouble, WAITING } from "./words.js";
+import { ASKING, called, CLOSES, ENTRY, HELP, NOTICE, OWN_WORDS, RANK, named, phase, trouble, WAITING } from "./words.js";
 
 const HALF_MINUTE = 30_000;
 // how often an open page looks whether the season has moved on: seldom, since many pages are open
@@ -11,7 +11,7 @@ const AT_LEAST = 60_000;
 
 let coming = null;
 let known = new Map();
-let names = { programmes: new Map(), short: new Map(), institutes: new Map(), lists: new Map(), titles: [] };
+let names = { programmes: new Map(), short: new Map(), institutes: new Map(), lists: new Map(), ranks: new Map(), titles: [] };
 
 async function fetchPapers() {
   const [season, found] = await Promise.all([jsonPaper("programmes.json"), jsonPaper("names.json")]);
@@ -19,8 +19,8 @@ async function fetchPapers() {
   if (found) {
     // a name in the language of the page, where the papers have one
     const both = (it) => new Map([...textsOf(found[it]), ...textsOf(found[document.documentElement.lang]?.[it])]);
-    const [programmes, short, institutes, lists] = ["programmes", "short", "institutes", "lists"].map(both);
-    names = { programmes, short, institutes, lists, titles: [found.board, found.season] };
+    const [programmes, short, institutes, lists, ranks] = ["programmes", "short", "institutes", "lists", "ranks"].map(both);
+    names = { programmes, short, institutes, lists, ranks, titles: [found.board, found.season] };
   }
   // what is not published yet, or did not arrive, may come later
   if (known.size === 0) coming = null;
@@ -49,6 +49,14 @@ export function seatName(code) {
 
 /** Returns a merit list by its name, or by its number. */
 export const listName = (number) => names.lists.get(String(number)) ?? ENTRY.list(number);
+
+/** Returns the board's own rank that a place stands for, with the name of its list, or null where the place is that rank, or the papers do not say it.
+ * The places of a merit list behind a published number are the ranks of another list. */
+export function rankOf(list, place) {
+  const begins = [...names.ranks].map(([code, name]) => ({ name, of: code.split("-").map(Number) })).filter(({ of: [its, first] }) => its === list && first < place);
+  const last = begins.sort((one, other) => one.of[1] - other.of[1]).at(-1);
+  return last ? RANK(last.name, place - last.of[1]) : null;
+}
 
 /** Returns whether a published programme uses a merit list; where none is published, each may be used. */
 export const isUsed = (number) => known.size === 0 || [...known.values()].some((it) => it.list === number);

@@ -1,4 +1,4 @@
-/** Who is signed in. Number and token are in the memory of a page alone, and in no address, log or storage. They are forgotten when somebody signs
+/** Who is signed in. Numbers and token are in the memory of a page alone, and in no address, log or storage. They are forgotten when somebody signs
  * out or does not touch the pages for a quarter of an hour. From one page of a visit to the next hold.js carries them, in memory too. */
 import { askPerson, closeWarning } from "./dom.js";
 import { IDLE_WORDS } from "./words.js";
@@ -73,9 +73,11 @@ let beat = null;
 
 const tell = (message, ports = []) => worker?.postMessage({ name: window.name, at: Date.now(), ...message }, ports);
 
+const kept = ({ cand, application, token }) => ({ value: { cand, application, token } });
+
 /** Tells hold.js again and again who is signed in: a browser may put a page aside before its last message goes out. */
 function holdOn(who) {
-  const put = () => who.token && tell({ value: { cand: who.cand, token: who.token } });
+  const put = () => who.token && tell(kept(who));
   clearInterval(beat);
   beat = setInterval(put, EVERY);
   put();
@@ -101,7 +103,7 @@ export async function carry(who) {
 /** Leaves a sign-in for the next page of this tab. */
 export function leaveForNext(who) {
   clearInterval(beat);
-  if (who?.token) tell({ value: { cand: who.cand, token: who.token } });
+  if (who?.token) tell(kept(who));
 }
 
 /** Ends the visit on all pages of this tab. */
@@ -124,7 +126,7 @@ export async function takeFromLast() {
     const found = worker && (await taken());
     // somebody may have signed in here meanwhile
     if (!found || window.name !== visit) return null;
-    const who = new SignIn(found.token, { cand: found.cand });
+    const who = new SignIn(found.token, { cand: found.cand, application: found.application });
     holdOn(who);
     return who;
   } catch {

@@ -105,6 +105,8 @@ export const LABELS = {
 export const FAULTS = {
   candidate: "उम्मीदवार नंबर में 1 से 9 अंक होते हैं और वह 0 से शुरू नहीं होता। वह बोर्ड के पत्र में है।",
   application: "यह आवेदन नंबर लगता है। उम्मीदवार नंबर से साइन इन करें, वह भी बोर्ड के पत्र में है।",
+  either: "अपना आवेदन नंबर लिखें, या बोर्ड के पत्र में दिया उम्मीदवार नंबर।",
+  pair: "इस आवेदन नंबर और इस टोकन वाला कोई उम्मीदवार नहीं है। दोनों का एक-एक अक्षर मिलाएँ: 0 और o, 1 और l, बड़े और छोटे अक्षर।",
   token: "टोकन में 8 से 32 अक्षर और अंक होते हैं।",
   signs: "टोकन में केवल अक्षर और अंक होते हैं। वह चिह्न देखें जो इनमें से नहीं है।",
   slip: "कार्यालय इस नंबर के साथ यह टोकन नहीं जानता। दोनों को एक-एक चिह्न मिलाएँ: 0 और o, 1 और l, बड़े और छोटे अक्षर।",
@@ -127,6 +129,12 @@ export const IDLE_WORDS = {
   title: "क्या आप अब भी यहाँ हैं?",
   lines: ["13 मिनट से किसी ने यह पन्ना नहीं छुआ है। 2 मिनट बाद यह आपको साइन आउट कर देगा और आपका टोकन भूल जाएगा।"],
   stay: "साइन इन रहें",
+};
+
+/** The field for the number, where the board has published what finds a candidate by the application number. */
+export const NUMBERS = {
+  label: "आपका आवेदन नंबर",
+  hint: "या उम्मीदवार नंबर, अगर वह बोर्ड के पत्र में है",
 };
 
 /** Who is signed in, on a page that is not the candidate's own. */
@@ -266,6 +274,9 @@ function endOf(step, lines) {
   if (first.traits) return `${kindOfSeat(step)} केवल इनके लिए: ${ends(lines).replaceAll(" · ", ", ")}।`;
   return `${kindOfSeat(step)} ${first.place === Infinity ? "किसी भी रैंक पर" : `रैंक ${figure(first.place)} तक`}${more ? ` (${more})` : ""}।`;
 }
+
+/** The board's own rank that a place stands for. */
+export const RANK = (list, rank) => `${list}: ${figure(rank)}`;
 
 export const CUTOFFS = {
   columns: ["प्रोग्राम", "संस्थान", "किस रैंक तक"],
@@ -416,7 +427,7 @@ export const ENTRY = {
   ],
   fields: { category: "वर्ग", traits: "विशेष श्रेणी", place: (list) => `${list} में रैंक` },
   list: (number) => `मेरिट लिस्ट ${number}`,
-  place: (place, isCommon) => (isCommon ? `${figure(place)}, बिना छूट वाली रैंक: ओपन सीटों के लिए भी गिनी जाती है` : `${figure(place)}, छूट वाली रैंक: केवल आपके वर्ग की सीटों के लिए`),
+  place: (place, isCommon, rank) => `${figure(place)}${rank ? ` (${rank})` : ""}, ${isCommon ? "बिना छूट वाली रैंक: ओपन सीटों के लिए भी गिनी जाती है" : "छूट वाली रैंक: केवल आपके वर्ग की सीटों के लिए"}`,
   nowhere: "किसी मेरिट लिस्ट में आपकी रैंक नहीं है।",
 };
 
@@ -515,7 +526,7 @@ export const STANDINGS = {
 };
 
 export const SEAT = {
-  fields: { candidate: "उम्मीदवार", seat: "सीट", final: "अंतिम प्रवेश", institute: "संस्थान", kind: "सीट का प्रकार", choice: "आपकी लिस्ट में", before: "पिछले राउंड में", place: (list) => `${list} में आपकी रैंक`, round: "राउंड", standing: "स्थिति" },
+  fields: { candidate: "उम्मीदवार", application: "आवेदन नंबर", seat: "सीट", final: "अंतिम प्रवेश", institute: "संस्थान", kind: "सीट का प्रकार", choice: "आपकी लिस्ट में", before: "पिछले राउंड में", place: (list) => `${list} में आपकी रैंक`, round: "राउंड", standing: "स्थिति" },
   none: "नहीं है",
   choice: (at) => `पसंद ${at}`,
   before: (at, seat) => `पसंद ${at}: ${seat}`,
@@ -591,7 +602,7 @@ export const WHY = {
   // what a step admits, and how far that is from the place of the candidate
   compare: ({ step, lines, best, place, isWithin }) =>
     lines.length === 0 ? `${kindOfSeat(step)} अब किसी और को नहीं मिल सकतीं।` : `${endOf(step, lines)} ${isWithin ? WITHIN : best === null ? NOT_YOU : BEHIND(best, place)}`,
-  counts: (place, list) => `यहाँ ${list} वाली आपकी रैंक गिनी जाती है: ${figure(place)}।`,
+  counts: (place, list, rank) => `यहाँ ${list} वाली आपकी रैंक गिनी जाती है: ${figure(place)}${rank ? ` (${rank})` : ""}।`,
   within: "कट-ऑफ़ के अनुसार यह प्रोग्राम आपको मिलना चाहिए था। कुछ गड़बड़ है: कट-ऑफ़ और कारण कार्यालय को दिखाएँ।",
   whichPlace: "पन्ने को पता नहीं कि इस प्रोग्राम में आपकी कौन-सी रैंक गिनी जाती है। उसे इन प्रकाशित कट-ऑफ़ से मिलाएँ:",
   line: ({ step, lines }) => endOf(step, lines),

@@ -106,6 +106,8 @@ export const LABELS = {
 export const FAULTS = {
   candidate: "A candidate number has 1 to 9 digits and does not begin with 0. It is in the board's letter.",
   application: "This looks like an application number. Sign in with the candidate number, which is in the board's letter too.",
+  either: "Type your application number, or the candidate number that is in the board's letter.",
+  pair: "No candidate has this application number with this token. Compare both sign by sign: 0 and o, 1 and l, capital and small letters.",
   token: "A token has 8 to 32 letters and digits.",
   signs: "A token has letters and digits only. Look at the sign that is neither.",
   slip: "The office does not know this token with this number. Compare them sign by sign: 0 and o, 1 and l, capital and small letters.",
@@ -128,6 +130,12 @@ export const IDLE_WORDS = {
   title: "Are you still there?",
   lines: ["Nobody has touched this page for 13 minutes. In 2 minutes it signs you out and forgets your token."],
   stay: "Stay signed in",
+};
+
+/** The field for the number, where the board has published what finds a candidate by the application number. */
+export const NUMBERS = {
+  label: "Your application number",
+  hint: "or the candidate number, if the board's letter has one",
 };
 
 /** Who is signed in, on a page that is not the candidate's own. */
@@ -265,6 +273,9 @@ function endOf(step, lines) {
   if (first.traits) return `${kindOfSeat(step)} end at place ${lines.map((it) => `${placed(it.place)} for ${holders(it.traits)}`).join(", ")}, and admit nobody else.`;
   return `${kindOfSeat(step)} ${first.place === Infinity ? "admit any place" : `end at place ${figure(first.place)}`}${more ? ` (${more})` : ""}.`;
 }
+
+/** The board's own rank that a place stands for. */
+export const RANK = (list, rank) => `${list}: ${figure(rank)}`;
 
 export const CUTOFFS = {
   columns: ["Programme", "Institute", "Ends at place"],
@@ -422,7 +433,7 @@ export const ENTRY = {
   ],
   fields: { category: "Category", traits: "You hold", place: (list) => `Place in ${list}` },
   list: (number) => `merit list ${number}`,
-  place: (place, isCommon) => (isCommon ? `${figure(place)}, a common place: it counts for open seats too` : `${figure(place)}, a relaxed place: it counts for the seats of your category alone`),
+  place: (place, isCommon, rank) => `${figure(place)}${rank ? ` (${rank})` : ""}, ${isCommon ? "a common place: it counts for open seats too" : "a relaxed place: it counts for the seats of your category alone"}`,
   nowhere: "You have no place in any merit list.",
 };
 
@@ -521,7 +532,7 @@ export const STANDINGS = {
 };
 
 export const SEAT = {
-  fields: { candidate: "Candidate", seat: "Seat", final: "Final admission", institute: "Institute", kind: "Kind of seat", choice: "On your list", before: "In the round before", place: (list) => `Your place in ${list}`, round: "Round", standing: "Status" },
+  fields: { candidate: "Candidate", application: "Application number", seat: "Seat", final: "Final admission", institute: "Institute", kind: "Kind of seat", choice: "On your list", before: "In the round before", place: (list) => `Your place in ${list}`, round: "Round", standing: "Status" },
   none: "none",
   choice: (at) => `choice ${at}`,
   before: (at, seat) => `choice ${at}: ${seat}`,
@@ -598,7 +609,7 @@ export const WHY = {
   // what a step admits, and how far that is from the place of the candidate
   compare: ({ step, lines, best, place, isWithin }) =>
     lines.length === 0 ? `${kindOfSeat(step)} admit nobody more.` : `${endOf(step, lines)} ${isWithin ? WITHIN : best === null ? NOT_YOU : BEHIND(best, place)}`,
-  counts: (place, list) => `Here your place in ${list} counts: ${figure(place)}.`,
+  counts: (place, list, rank) => `Here your place in ${list} counts: ${figure(place)}${rank ? ` (${rank})` : ""}.`,
   within: "By its cutoffs this programme would admit you. Something is wrong: show the cutoffs and the reason to the office.",
   whichPlace: "This page does not know which of your places counts at this programme. Compare yours with its published cutoffs:",
   line: ({ step, lines }) => endOf(step, lines),

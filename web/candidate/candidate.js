@@ -3,11 +3,12 @@ import { ask, askCutoffs, askList, paper, serverTime } from "../ask.js";
 import { bySteps, compared, readCutoffs, readPlace } from "../cutoffs.js";
 import { $, askBeforeLeaving, button, canBeShown, clear, closeQuestions, confirmed, countSigns, details, dropLinks, el, emptyToken, lazyDetails, onPress, onSend, ownWords, paragraphs, ready, saveLink, say, sayFault, show, table, ungrouped, valuesOf, verbatim } from "../dom.js";
 import { printLetter } from "../letter.js";
+import { bare, candidateOf, numbersPaper } from "../numbers.js";
 import { listPicture } from "../picture.js";
 import { CHOICES as ALL_CHOICES, grouped, heldBefore, isCandidate, isToken, lineOf, MOST_TURNS, moved, openNow, readList, readSpecial, readWhy, receiptsOf, settledByList, situation } from "../rule.js";
-import { announcedEnd, endPaper, instituteName, instituteOf, listName, lookAgain, papersCome, programmeOf, seatName, showContact, showEnd, showNotice } from "../season.js";
+import { announcedEnd, endPaper, instituteName, instituteOf, listName, lookAgain, papersCome, programmeOf, rankOf, seatName, showContact, showEnd, showNotice } from "../season.js";
 import { carry, endVisit, isVisit, leaveForNext, leaveInTime, SignIn, takeFromLast } from "../session.js";
-import { ANSWER, ASKING, CATEGORIES, CHOICES, ENTRY, HELP, HOLDS, HOLDS_NOTHING, kindOfSeat, LABELS, LATER, LEFT, LIST_FAULTS, moment, NOT_DISABILITY, OLD, OWN_WORDS, phase, RECEIPTS, SEAT, SETTLED, STANDINGS, STATE, trouble, VISIT, WAITING, WHY } from "../words.js";
+import { ANSWER, ASKING, CATEGORIES, CHOICES, ENTRY, HELP, HOLDS, HOLDS_NOTHING, kindOfSeat, LABELS, LATER, LEFT, LIST_FAULTS, moment, NOT_DISABILITY, NUMBERS, OLD, OWN_WORDS, phase, RECEIPTS, SEAT, SETTLED, STANDINGS, STATE, trouble, VISIT, WAITING, WHY } from "../words.js";
 
 const AT_ONCE = 20;
 const [UNKNOWN, DENIED, LATE] = [1, 3, 6];
@@ -23,6 +24,8 @@ const ORDER = {
 };
 let me = null;
 let carries = false;
+// what the board has published of application numbers, if it has
+let numbers = null;
 
 const regions = () => ["lead", "closes", "seat", "entry", "receipt", "answers", "receipts", "choices", "why-said", "whys", "complaint", "letter"].map($);
 const isIn = () => me !== null && !$("mine").hidden;
@@ -41,16 +44,37 @@ class NoAnswer extends Error {
 // ---- signing in and out
 
 // what boards give to people who apply has more digits, or letters
-const faultOfNumber = (text) => (/^[A-Za-z]*[0-9]{6,}[A-Za-z0-9]*$/.test(text) && !/^[0-9]{1,9}$/.test(text) ? "application" : "candidate");
+const faultOfNumber = (text) => (/^[A-Z]*[0-9]{6,}[A-Z0-9]*$/.test(bare(text)) && !/^[0-9]{1,9}$/.test(text) ? "application" : "candidate");
 const faultOfToken = (text) => (/^[A-Za-z0-9]*$/.test(text) ? "token" : "signs");
 
 async function signIn() {
   say($("said"), "plain");
-  const [number, token] = valuesOf([$("number"), isCandidate, faultOfNumber], [$("token"), isToken, faultOfToken, ungrouped]) ?? [];
+  numbers ??= await numbersPaper();
+  const isNumber = (it) => isCandidate(it) || (numbers !== null && bare(it) !== "");
+  const [number, token] = valuesOf([$("number"), isNumber, numbers ? "either" : faultOfNumber], [$("token"), isToken, faultOfToken, ungrouped]) ?? [];
   if (!number) return;
   endVisit();
-  const who = new SignIn(token, { cand: Number(number) });
-  await comesAs(who, () => carry(who).then((can) => (carries = can)));
+  const who = await whoIs(number, token);
+  if (who) await comesAs(who, () => carry(who).then((can) => (carries = can)));
+}
+
+/** Returns the sign-in of a number and a token, where the number may be an application number if the board has published these. */
+async function whoIs(number, token) {
+  const found = numbers && (await candidateOf(numbers, number, token));
+  if (found) return new SignIn(token, { cand: found, application: number });
+  if (isCandidate(number)) return new SignIn(token, { cand: Number(number) });
+  if (found === null) return stopped({ body: null, trouble: "lost" });
+  sayFault($("token"), "pair");
+  return $("token").focus();
+}
+
+/** Asks for the application number at the door, if the board has published what finds it. */
+async function showDoor() {
+  numbers = await numbersPaper();
+  if (!numbers) return;
+  $("number-label").textContent = NUMBERS.label;
+  $("number-hint").textContent = NUMBERS.hint;
+  if (numbers.letters) $("number").inputMode = "text";
 }
 
 async function comesAs(who, then = () => {}) {
@@ -279,6 +303,7 @@ async function seekSpecial(who) {
 function showSeat(who) {
   const { cand, seat, state, entry, choices } = who;
   const rows = [[SEAT.fields.candidate, cand]];
+  if (who.application) rows.push([SEAT.fields.application, who.application]);
   const field = isOver(who) ? SEAT.fields.final : SEAT.fields.seat;
   if (seat.programme) {
     const at = choices ? choices.programmes.indexOf(seat.programme) + 1 : 0;
@@ -289,7 +314,7 @@ function showSeat(who) {
     rows.push([SEAT.fields.kind, kindOfSeat(seat.step)]);
     if (at) rows.push([SEAT.fields.choice, SEAT.choice(at)]);
     if (who.move) rows.push([SEAT.fields.before, SEAT.before(who.move.from, seatName(who.move.held))]);
-    if (place) rows.push([SEAT.fields.place(listName(list)), ENTRY.place(place.place, place.isCommon)]);
+    if (place) rows.push([SEAT.fields.place(listName(list)), ENTRY.place(place.place, place.isCommon, rankOf(list, place.place))]);
     rows.push([SEAT.fields.round, seat.round]);
   } else rows.push([field, SEAT.none]);
   rows.push([SEAT.fields.standing, standing(who)]);
@@ -312,7 +337,7 @@ function showEntry(who) {
   const { entry, state } = who;
   const isEarly = state.published === 0;
   const places = entry.places.map((it, at) => [at + 1, readPlace(it)]).filter(([, it]) => it);
-  const rows = [[ENTRY.fields.category, CATEGORIES[entry.category] ?? entry.category], [ENTRY.fields.traits, heldWords(entry.traits)], ...places.map(([list, it]) => [ENTRY.fields.place(listName(list)), ENTRY.place(it.place, it.isCommon)])];
+  const rows = [[ENTRY.fields.category, CATEGORIES[entry.category] ?? entry.category], [ENTRY.fields.traits, heldWords(entry.traits)], ...places.map(([list, it]) => [ENTRY.fields.place(listName(list)), ENTRY.place(it.place, it.isCommon, rankOf(list, it.place))])];
   const parts = [facts(rows), places.length === 0 && ENTRY.nowhere, details(OWN_WORDS, verbatim(lineOf(entry))), details(ENTRY.seen, ...paragraphs(ENTRY.public))].filter(Boolean).map((it) => (typeof it === "string" ? el("p", {}, it) : it));
   if (isEarly) show($("entry"), el("p", { class: "say" }, ENTRY.check), ...parts);
   else if (!$("entry").querySelector("details[open]")) show($("entry"), ENTRY.later, details(ENTRY.open, ...parts));
@@ -569,7 +594,7 @@ function comparison(who, code, got, withSeats) {
     const steps = compared(lines, who.entry, place);
     const shown = steps.filter((it) => it.lines.length || withSeats.includes(it.step));
     const rows = shown.map((it) => el("li", {}, WHY.compare(it)));
-    return [WHY.counts(place.place, listName(list)), el("ul", { class: "far" }, rows), el("p", { class: "hint" }, WHY.cutoffsAre), steps.some((it) => it.isWithin) && el("p", { class: "say bad" }, WHY.within)];
+    return [WHY.counts(place.place, listName(list), rankOf(list, place.place)), el("ul", { class: "far" }, rows), el("p", { class: "hint" }, WHY.cutoffsAre), steps.some((it) => it.isWithin) && el("p", { class: "say bad" }, WHY.within)];
   } catch {
     return [WHY.noCutoffs];
   }
@@ -616,5 +641,6 @@ lookAgain(lookWhile);
 ready();
 comesBack();
 showNotice($("notice"));
+showDoor();
 showContact($("lost"), HELP.lost, HELP.nobody);
 showContact($("contact"));

@@ -1,7 +1,8 @@
-/** Cases for rule.js and cutoffs.js by themselves: node --test web/tests */
+/** Cases for rule.js, cutoffs.js and numbers.js by themselves: node --test web/tests */
 import assert from "node:assert/strict";
 import { test } from "node:test";
 import { compared, firstWithin, readCutoffs, readCutoffTable, readPlace } from "../cutoffs.js";
+import { bare, hashed } from "../numbers.js";
 import { Filling, grouped, heldBefore, isToken, lineOf, moved, openNow, readList, readSheet, readSpecial, readWhy, settledByList, situation, twoQuestions, Unreadable } from "../rule.js";
 
 const state = (now, rounds = 3) => ({ reply: "state", now, rounds, published: Math.min(now, rounds) });
@@ -93,6 +94,12 @@ test("what a list settles by itself", () => {
   assert.equal(settledByList(step(1, 2, 0, [1, "-"]), {}, "", true).verdict, "wrong");
   assert.equal(settledByList(step(2, 2, 0, [1, "-"]), {}, "", false).by.key, "empty");
   assert.equal(settledByList(step(1, 2, 1, [1, "W"]), { W: 1 }, "", true).verdict, "open");
+});
+
+test("an application number with its token, as tools/board_numbers.py hashes them", async () => {
+  assert.equal(bare("jee-2026/0031 a"), "JEE20260031A");
+  for (const typed of ["JEE20260031A", "jee-2026/0031 a"]) assert.equal(await hashed("00ff", typed, "abcdefgh12345678"), "c4417e897f8f88b6");
+  assert.notEqual(await hashed("00ff", "JEE20260031A", "abcdefgh12345679"), "c4417e897f8f88b6");
 });
 
 test("tokens as people type them", () => {
