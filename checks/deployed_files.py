@@ -99,8 +99,12 @@ def begin(room, program):
     tally.holds(status == 0, "begin takes tokens of 32 hexadecimal digits", f"{status} {wrote}")
     with open(f"{TOP}/examples/two-states/divided.txt", "rb") as it:
         divided, _ = strong(it.read().partition(b"[requests]")[0])
-    status, wrote = script("begin", [f"{room}/units.db"], program, divided)
+    os.mkdir(f"{room}/desk")
+    status, wrote = script("begin", [f"{room}/units.db"], program, divided, DESK=f"{room}/desk")
     tally.holds(status == 0, "begin takes a bundle with units", f"{status} {wrote}")
+    path = f"{room}/desk/clerk-token.conf"
+    told = (os.listdir(f"{room}/desk"), text_of(path), os.stat(path).st_mode & 0o777)
+    tally.same(told, (["clerk-token.conf"], '"Qm4xTz81vKpL" 1;\n', 0o600), "begin tells nginx which token is the clerk's")
 
 
 @part("keep-copy")
@@ -716,7 +720,7 @@ up
 say first "$(state)"
 say copies "$(copies)"
 say checked "$(comes 'state window 0 rounds 2 published 0' 'cat /var/lib/nachodune/copies/*Z/state.txt 2> /dev/null')"
-say counts "$(comes '{"window": 0, "open": false, "seats": 0' 'ask https://office.example/clerk/counts.json | cut -d , -f 1-3')"
+say counts "$(comes '{"window": 0, "open": false, "seats": 0' 'ask -H "X-Office-Token: Qm4xTz81vKpL" https://office.example/clerk/counts.json | cut -d , -f 1-3')"
 say second "$(comes 1 'ls /second | wc -l')"
 say mode "$(stat -c %a /var/lib/nachodune /var/lib/nachodune/copies $kept | tr '\n' ' ')"
 curl -s -m 5 http://127.0.0.1:8080/v1/state

@@ -327,6 +327,35 @@ def clerks(room, program):
         tally.status(came, 200, "a cut from the clerk's address")
 
 
+@part("the clerk's token and the lists by address", ["nginx", "openssl"])
+def clerks_alone(room, program):
+    """With the file of `begin` the clerk's token opens nothing from elsewhere, and with PUBLIC=cutoffs neither rounds nor lists are for everybody."""
+    os.makedirs(f"{room}/desk")
+    with open(f"{room}/desk/clerk-token.conf", "w", encoding="ascii") as it:
+        it.write(f'"{CLERK}" 1;\n')
+    os.makedirs(f"{room}/office")
+    with Office(program, f"{room}/office") as office, Front(room, f"127.0.0.1:{office.port}", PUBLIC="cutoffs", DESK=f"{room}/desk") as nginx:
+        office.start("new", bundle=bundle_of())
+        tally.status(nginx.ask("POST", "/v1/cut", CLERK, CUT, source=CLERK_AT), 200, "a cut from the clerk's address")
+        names = ["round-1.txt", "lists-1.txt", "institute-1-I1.txt", "mock-round.txt", "mock-institute-I1.txt", "special-lists.txt", "special.txt", "final.txt"]
+        for name in [*names, "cutoffs-1.csv", "closing-1.csv", "mock-cutoffs.csv", "programmes.json"]:
+            for end in ("", ".gz"):
+                with open(f"{room}/season/{name}{end}", "w", encoding="utf-8") as it:
+                    it.write("x")
+        own = ["/v1/seat/2", "/v1/register/2", "/v1/choices/2", "/v1/answers/2", "/v1/why/2/A"]
+        for path in own:
+            seen = [nginx.ask("GET", path, token, source=it).status for token, it in ((CLERK, CLERK_AT), (CLERK, OTHER_AT), (SECOND, OTHER_AT))]
+            tally.same(seen, [200, 403, 200], f"{path} by the clerk's token at the clerk's address alone, and by the candidate's anywhere")
+        for path in ("/v1/round/1", "/v1/list/1/A", *(f"/season/{it}{end}" for it in names for end in ("", ".gz"))):
+            seen = [nginx.ask("GET", path, source=it).status for it in (CLERK_AT, OTHER_AT)]
+            tally.same(seen, [200, 403], f"{path} for the clerk's addresses alone")
+        for path in ("/v1/state", "/v1/cutoffs/1/A", "/season/cutoffs-1.csv", "/season/closing-1.csv", "/season/mock-cutoffs.csv", "/season/programmes.json"):
+            tally.status(nginx.ask("GET", path), 200, f"{path} for everybody")
+        came = nginx.ask("GET", "/season/round-1.txt")
+        tally.holds(b"lists of seats" in came.body, "a page for people says so", f"{came}")
+    no_tokens(nginx.logs(), bundle_of(), "the clerk's token and the lists by address")
+
+
 @part("limits by address", ["nginx", "openssl"])
 def by_address(room, program):
     with fronted(room, program) as (nginx, _):

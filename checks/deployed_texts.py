@@ -107,7 +107,8 @@ def packed(room, program):
         os.makedirs(f"{room}/conf/desk")
         with open(f"{room}/conf/desk/counts.json", "w", encoding="utf-8") as it:
             it.write("{}")
-        tally.same([nginx.ask("GET", "/clerk/counts.json", source=it).status for it in (CLERK_AT, OTHER_AT)], [200, 403], "the counts are for the clerk's addresses")
+        seen = [nginx.ask("GET", "/clerk/counts.json", token, source=it).status for token in (CLERK, SECOND, None) for it in (CLERK_AT, OTHER_AT)]
+        tally.same(seen, [200, 403, 403, 403, 403, 403], "the counts are for the clerk's token from the clerk's addresses")
         tally.same(nginx.ask("GET", "/-/404.html").status, 404, "the pages for people have no address of their own")
         came = nginx.ask("POST", "/v1/cut", CLERK, CUT)
         tally.same((came.status, came.body), (403, b'{"front":"closed"}'), "the clerk's request from elsewhere says that it is closed")

@@ -427,7 +427,7 @@ export const ENTRY = {
   open: "Show what the register has of you",
   seen: "What others can see of you",
   public: [
-    "In the published rounds and lists everybody can read your candidate number with your seat and its kind, and which protected seat you fill. The office's own lists name its trait by a letter, also that of disability.",
+    "Where the board publishes rounds and lists, everybody can read your candidate number with your seat and its kind, and which protected seat you fill. The office's own lists name its trait by a letter, also that of disability.",
     "Your entry, your choice list, your answers and your receipts are for you and for the clerk. A court that checks the season gets them too.",
     "The office knows no names, marks or addresses.",
   ],
@@ -746,7 +746,7 @@ const TROUBLES = {
   busy: "Too many people are asking just now. Wait a moment.",
   keeper: "The office could not confirm that it kept this, so it gives no receipt.",
   memory: "The office ran out of memory.",
-  closed: "The web server does not allow this computer to ask for this.",
+  closed: "The web server does not give this to everybody. Ask the board if you need it.",
 };
 
 /** What is wrong with a reply: the office's refusal, or why there is no reply of the office. */

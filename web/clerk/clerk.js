@@ -88,7 +88,7 @@ async function look() {
 
 /** Shows how many seats of the open window are without any answer, where the web server tells it. */
 async function showCounts(who) {
-  const counts = await askCounts({ signal: who.signal });
+  const counts = await askCounts(how(who));
   if (who !== me) return;
   const isNow = counts?.window === season.now && [counts.seats, counts.unanswered].every(Number.isSafeInteger);
   show($("counts"), isNow && el("p", { class: "say" }, CLERK.counts(counts, counts.at)), isNow && Array.isArray(counts.who) && counts.who.length > 0 && silent(counts));
