@@ -47,10 +47,10 @@ const [english, hindi] = [en, hi].map((it) => new Map(texts(it).filter(([name]) 
 
 test("both languages have the same names", () => assert.deepEqual([...english.keys()].sort(), [...hindi.keys()].sort()));
 
-test("a term of the glossary is in the Hindi sentence if it is in the English one", () => {
-  const wrong = [...english].flatMap(([name, text]) => TERMS.filter((it) => it.en.test(text) && !it.hi.test(hindi.get(name) ?? "")).map((it) => `${name}: ${it.en}: ${hindi.get(name)}`));
-  assert.deepEqual(wrong, []);
-});
+/** Returns the terms that the sentences of one language have, and those of the same names in the other one have not. */
+const lost = (own, others) => [...own].flatMap(([name, text]) => TERMS.filter((it) => it.en.test(text) && !it.hi.test(others.get(name) ?? "")).map((it) => `${name}: ${it.en}: ${others.get(name)}`));
+
+test("a term of the glossary is in the Hindi sentence if it is in the English one", () => assert.deepEqual(lost(english, hindi), []));
 
 /** Returns each sentence in which a word is that has another one in its place. */
 const misnamed = (sentences, never) => sentences.flatMap((text) => never.filter(([word]) => word.test(text)).map(([word, instead]) => `${word} (${instead}): ${text}`));
@@ -73,9 +73,25 @@ test("nor in the pages that the web server shows in place of a number", () => {
   }
 });
 
+/** Returns a file of the repository. */
+const file = (path) => readFileSync(new URL(`../../${path}`, import.meta.url), "utf-8");
+
+test("nor in the guide", () => {
+  for (const [path, language] of [["docs/CANDIDATE.md", "en"], ["docs/CANDIDATE.hi.md", "hi"]]) assert.deepEqual(misnamed(file(path).split("\n"), NEVER[language]), [], path);
+});
+
+test("nor where candidates make their lists on the web, and terms are the same there", () => {
+  // what is in braces is a name of the program
+  const [english, hindi] = ["en", "hi"].map((it) => new Map(texts(JSON.parse(file(`deploy/choices/words.${it}.json`))).map(([name, text]) => [name, text.replace(/\{\w+\}/g, "…")])));
+  assert.deepEqual([...english.keys()], [...hindi.keys()]);
+  assert.deepEqual(lost(english, hindi), []);
+  for (const [sentences, never] of [[english, NEVER.en], [hindi, NEVER.hi]]) assert.deepEqual(misnamed([...sentences.values()], never), []);
+});
+
 test("a wrong word is found", () => {
   assert.equal(misnamed(["The students wait."], NEVER.en).length, 1);
   assert.equal(misnamed(["यह सत्र पूरा हुआ।"], NEVER.hi).length, 1);
+  assert.equal(lost(new Map([["it", "Your seat"]]), new Map([["it", "आपका स्थान"]])).length, 1);
   assert.deepEqual(literals('({ a }) => (a ? `Round ${figure("x")} of ${b}.` : "none")'), ["x", "Round … of ….", "none"]);
 });
 
