@@ -460,10 +460,10 @@ export const STATE = {
       `आपको कुछ करने की ज़रूरत नहीं। ${by ? `${by} तक` : `विंडो ${window} बंद होने तक`} ${isLast ? "आप केवल नाम वापस ले सकते हैं" : "आप अपना विकल्प बदल सकते हैं"}।`,
     ],
     admitted: () => ["यह प्रवेश अंतिम है।", "अब अपना पत्र छापें, और बोर्ड तथा संस्थान की सूचनाएँ देखें: वे बताती हैं कि कब और कहाँ पहुँचना है।"],
-    without: ({ hasSpecial }) => [hasSpecial ? "विशेष राउंड में भी आपके पास सीट नहीं है।" : SEAT.special],
+    without: ({ hasSpecial }) => [hasSpecial ? SEAT.noSpecial : SEAT.special],
     special: () => ["बोर्ड तथा संस्थान की सूचनाएँ देखें: वे बताती हैं कि कब और कहाँ पहुँचना है।"],
-    withdrawn: ({ hasSpecial }) => [hasSpecial ? "विशेष राउंड में भी आपके पास सीट नहीं है।" : SEAT.special],
-    noshow: ({ hasSpecial }) => [hasSpecial ? "विशेष राउंड में भी आपके पास सीट नहीं है।" : SEAT.special],
+    withdrawn: ({ hasSpecial }) => [hasSpecial ? SEAT.noSpecial : SEAT.special],
+    noshow: ({ hasSpecial }) => [hasSpecial ? SEAT.noSpecial : SEAT.special],
   },
   moved: (from, to) => `आप ऊपर गए हैं: पसंद ${from} से पसंद ${to} पर।`,
   first: (to) => `यह आपकी पसंद ${to} है।`,
@@ -526,13 +526,16 @@ export const STANDINGS = {
 };
 
 export const SEAT = {
-  fields: { candidate: "उम्मीदवार", application: "आवेदन नंबर", seat: "सीट", final: "अंतिम प्रवेश", institute: "संस्थान", kind: "सीट का प्रकार", choice: "आपकी लिस्ट में", before: "पिछले राउंड में", place: (list) => `${list} में आपकी रैंक`, round: "राउंड", standing: "स्थिति" },
+  fields: { candidate: "उम्मीदवार", application: "आवेदन नंबर", seat: "सीट", final: "अंतिम प्रवेश", special: "विशेष राउंड की सीट", institute: "संस्थान", kind: "सीट का प्रकार", choice: "आपकी लिस्ट में", before: "पिछले राउंड में", place: (list) => `${list} में आपकी रैंक`, round: "राउंड", standing: "स्थिति" },
   none: "नहीं है",
   choice: (at) => `पसंद ${at}`,
   before: (at, seat) => `पसंद ${at}: ${seat}`,
   final: "यह प्रवेश अंतिम है।",
   noAdmission: "सभी राउंड हो गए और आपको प्रवेश नहीं मिला।",
   special: "अगर बोर्ड खाली सीटों के लिए विशेष राउंड करे, तो आप उसके लिए नई लिस्ट दे सकते हैं।",
+  bySpecial: "यह सीट आपको विशेष राउंड में मिली है।",
+  noSpecial: "विशेष राउंड में भी आपके पास सीट नहीं है।",
+  noList: "आपके पास सीट नहीं है, और किसी राउंड में मिल भी नहीं सकती, क्योंकि आपकी चॉइस लिस्ट खाली है।",
   lastKept: "आप यह सीट रखते हैं। क्लर्क के यह विंडो बंद करते ही यह आपका अंतिम प्रवेश बन जाएगी।",
   changed: "पन्ने पर दिखने के बाद आपकी सीट या आपका जवाब बदल गया है। फिर से देखें।",
 };
@@ -574,6 +577,7 @@ export const ANSWER = {
 export const RECEIPTS = {
   columns: ["विंडो", "बारी", "जवाब", "रसीद"],
   caption: "आपके जवाब, उसी क्रम में जिसमें कार्यालय ने उन्हें लिया",
+  window: (window) => `विंडो ${window}`,
   none: "कार्यालय के पास आपका कोई जवाब नहीं है।",
   save: "सारी रसीदें सेव करें",
   fileName: (cand) => `receipts-${cand}.txt`,

@@ -466,10 +466,10 @@ export const STATE = {
       `You need not do anything. ${isLast ? "You can only still withdraw" : "You can change your answer"} until ${by ?? `window ${window} closes`}.`,
     ],
     admitted: () => ["This admission is final.", "Next, print your letter, and follow the notices of the board and of the institute: they say when and where you report."],
-    without: ({ hasSpecial }) => [hasSpecial ? "You have no seat in the special round either." : SEAT.special],
+    without: ({ hasSpecial }) => [hasSpecial ? SEAT.noSpecial : SEAT.special],
     special: () => ["Follow the notices of the board and of the institute: they say when and where you report."],
-    withdrawn: ({ hasSpecial }) => [hasSpecial ? "You have no seat in the special round either." : SEAT.special],
-    noshow: ({ hasSpecial }) => [hasSpecial ? "You have no seat in the special round either." : SEAT.special],
+    withdrawn: ({ hasSpecial }) => [hasSpecial ? SEAT.noSpecial : SEAT.special],
+    noshow: ({ hasSpecial }) => [hasSpecial ? SEAT.noSpecial : SEAT.special],
   },
   moved: (from, to) => `You moved up: from your choice ${from} to your choice ${to}.`,
   first: (to) => `It is your choice ${to}.`,
@@ -532,13 +532,16 @@ export const STANDINGS = {
 };
 
 export const SEAT = {
-  fields: { candidate: "Candidate", application: "Application number", seat: "Seat", final: "Final admission", institute: "Institute", kind: "Kind of seat", choice: "On your list", before: "In the round before", place: (list) => `Your place in ${list}`, round: "Round", standing: "Status" },
+  fields: { candidate: "Candidate", application: "Application number", seat: "Seat", final: "Final admission", special: "Seat by the special round", institute: "Institute", kind: "Kind of seat", choice: "On your list", before: "In the round before", place: (list) => `Your place in ${list}`, round: "Round", standing: "Status" },
   none: "none",
   choice: (at) => `choice ${at}`,
   before: (at, seat) => `choice ${at}: ${seat}`,
   final: "This admission is final.",
   noAdmission: "The rounds ended without an admission for you.",
   special: "If the board holds a special round for vacant seats, you may hand in a new list for it.",
+  bySpecial: "The special round gave you this seat.",
+  noSpecial: "You have no seat in the special round either.",
+  noList: "You have no seat, and no round can give you one, because your choice list is empty.",
   lastKept: "You keep this seat. It becomes your final admission when the clerk closes this window.",
   changed: "Your seat or your answer has changed since this page showed it. Look again.",
 };
@@ -581,6 +584,7 @@ export const ANSWER = {
 export const RECEIPTS = {
   columns: ["Window", "Turn", "Answer", "Receipt"],
   caption: "Your answers, in the order in which the office took them",
+  window: (window) => `Window ${window}`,
   none: "The office has no answer from you.",
   save: "Save all receipts",
   fileName: (cand) => `receipts-${cand}.txt`,

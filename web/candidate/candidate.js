@@ -12,6 +12,7 @@ import { ANSWER, ASKING, CATEGORIES, CHOICES, ENTRY, HELP, HOLDS, HOLDS_NOTHING,
 
 const AT_ONCE = 20;
 const [UNKNOWN, DENIED, LATE] = [1, 3, 6];
+const NAMES_WAIT = 3_000;
 const STAYS = ["freeze", "float", "slide"];
 // in the round before, somebody's seat is looked for in so many lists
 const MOST_LISTS = 30;
@@ -298,13 +299,15 @@ async function seekSpecial(who) {
     return;
   }
   showTitle(who);
+  showSeat(who);
 }
 
 function showSeat(who) {
-  const { cand, seat, state, entry, choices } = who;
+  const { cand, state, entry, choices, special } = who;
+  const seat = special?.row ?? who.seat;
   const rows = [[SEAT.fields.candidate, cand]];
   if (who.application) rows.push([SEAT.fields.application, who.application]);
-  const field = isOver(who) ? SEAT.fields.final : SEAT.fields.seat;
+  const field = special?.row ? SEAT.fields.special : isOver(who) ? SEAT.fields.final : SEAT.fields.seat;
   if (seat.programme) {
     const at = choices ? choices.programmes.indexOf(seat.programme) + 1 : 0;
     const list = programmeOf(seat.programme)?.list;
@@ -315,20 +318,22 @@ function showSeat(who) {
     if (at) rows.push([SEAT.fields.choice, SEAT.choice(at)]);
     if (who.move) rows.push([SEAT.fields.before, SEAT.before(who.move.from, seatName(who.move.held))]);
     if (place) rows.push([SEAT.fields.place(listName(list)), ENTRY.place(place.place, place.isCommon, rankOf(list, place.place))]);
-    rows.push([SEAT.fields.round, seat.round]);
+    if (seat.round) rows.push([SEAT.fields.round, seat.round]);
   } else rows.push([field, SEAT.none]);
   rows.push([SEAT.fields.standing, standing(who)]);
-  $("letter-button").hidden = !seat.programme;
-  show($("seat"), facts(rows), seat.step === "D" && el("p", {}, el("strong", {}, NOT_DISABILITY)), phase(state).join(" "), details(OWN_WORDS, verbatim(`${lineOf(seat)}\n${lineOf(state)}`)));
+  $("letter-button").hidden = !who.seat.programme;
+  show($("seat"), facts(rows), seat.step === "D" && el("p", {}, el("strong", {}, NOT_DISABILITY)), phase(state).join(" "), details(OWN_WORDS, verbatim(`${lineOf(who.seat)}\n${lineOf(state)}`)));
 }
 
 const facts = (rows) => el("dl", { class: "facts" }, rows.map(([name, fact]) => el("div", {}, el("dt", {}, name), el("dd", {}, fact))));
 
 /** How the candidate is. After the last cut the office still says `float`, although the admission is final. */
 function standing(who) {
-  const { seat } = who;
+  const { seat, special, choices } = who;
   if (isOver(who) && seat.programme) return SEAT.final;
-  if (isOver(who)) return [seat.standing === "waiting" ? SEAT.noAdmission : STANDINGS[seat.standing], SEAT.special].join(" ");
+  if (special?.row) return SEAT.bySpecial;
+  if (isOver(who)) return [seat.standing === "waiting" ? SEAT.noAdmission : STANDINGS[seat.standing], special ? SEAT.noSpecial : SEAT.special].join(" ");
+  if (seat.standing === "waiting" && choices?.programmes.length === 0) return SEAT.noList;
   return isLast(who) && STAYS.includes(seat.standing) ? SEAT.lastKept : STANDINGS[seat.standing];
 }
 
@@ -405,6 +410,9 @@ function leaving(who, about) {
 }
 
 async function answer(who, choice) {
+  // the question names programmes by their names, if these come soon
+  await Promise.race([papersCome(), new Promise((then) => setTimeout(then, NAMES_WAIT))]);
+  if (who !== me) return;
   const about = aboutAnswers(who);
   const isGrave = choice === "withdraw";
   const lines = [!isGrave && ANSWER.seat(about.seat), ...CHOICES[choice].does(about)];
@@ -464,7 +472,7 @@ function showReceipts(who) {
   const all = receiptsOf(who.answers);
   if (!all.length) return show(out, RECEIPTS.none);
   const lines = all.map(lineOf);
-  const cells = (it, at) => [it.window, it.turn, CHOICES[it.choice].name, el("code", { lang: "en" }, lines[at])];
+  const cells = (it, at) => [RECEIPTS.window(it.window), it.turn, CHOICES[it.choice].name, el("code", { lang: "en" }, lines[at])];
   show(
     out,
     table(RECEIPTS.caption, RECEIPTS.columns, all.map(cells)),
