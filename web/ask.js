@@ -4,8 +4,9 @@
 const SILENCE = 20;
 const TRIES = 5;
 const LONGEST_WAIT = 8000;
-// how long an office is asked again that the web server says is away: a start over a full store takes a minute
-const AWAY = 120_000;
+// how long an office is asked again of which the web server says that it is away or busy: a start over a full store takes a minute, and so do 2,000 visitors of one address
+const PATIENCE = 120_000;
+const PATIENT = new Set(["away", "busy"]);
 // of a reply that breaks off after so many bytes, the page says so and does not ask for it again by itself
 const LARGE = 65_536;
 // Troubles after which the same request is sent again. That is safe: the office takes a request once and gives its receipt again.
@@ -105,13 +106,13 @@ function read({ status, text, size }) {
 
 const pause = (ms) => new Promise((then) => setTimeout(then, ms));
 
-/** Asks the office, and again after a trouble that may pass: for two minutes while it is away, and otherwise a few times. `waiting` is called
- * before each further try. */
+/** Asks the office, and again after a trouble that may pass: for two minutes while it is away or busy, and otherwise a few times. `waiting`
+ * is called before each further try. */
 export async function ask(path, how = {}) {
   const began = Date.now();
   for (let tries = 1; ; tries++) {
     const got = read(await fetched(`/v1/${path}`, how));
-    const isPatient = got.trouble === "away" ? Date.now() - began < AWAY : tries < TRIES;
+    const isPatient = PATIENT.has(got.trouble) ? Date.now() - began < PATIENCE : tries < TRIES;
     if (!got.passing || !isPatient || how.signal?.aborted) return got;
     how.waiting?.(got);
     await pause(Math.min(LONGEST_WAIT, 500 * 2 ** (tries - 1)) * (0.7 + 0.6 * Math.random()));
