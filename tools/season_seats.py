@@ -15,6 +15,18 @@ SUPPORTS = ("of", "and", "the", "in", "for", "with", "at", "on")
 OF_DIVIDED = CODE.most - 3
 
 
+def width_of(codes: list) -> tuple:
+    """Returns how many digits codes of digits may have had before their zeros were lost, and why; 0 if nothing speaks for lost zeros, as in 1, 2, 3 and so on."""
+    padded = [len(it) for it in codes if re.fullmatch("0[0-9]+", it)]
+    if padded:
+        return max(padded), f"other codes have {max(padded)} digits and zeros before them"
+    widths = [len(it) for it in codes]
+    usual = max(widths, key=widths.count, default=0)
+    if 2 * widths.count(usual) <= len(codes) or sorted(map(int, codes)) == [*range(1, len(codes) + 1)]:
+        return 0, ""
+    return usual, f"most codes have {usual} digits"
+
+
 class Programme:
     """A programme of the matrix, or a unit of one that is divided: its first row, and its seats by step."""
 
@@ -378,12 +390,12 @@ class Matrix:
             for row, fields in self.table.rows:
                 cell = self.table.cell(row, fields, meaning)
                 cells.setdefault(cell.text, cell)
-            zeros = max((len(it) for it in cells if re.fullmatch("0[0-9]+", it)), default=0)
+            width, why = width_of([it for it in cells if re.fullmatch("[0-9]+", it)])
             for text, cell in cells.items():
                 if REWRITTEN.fullmatch(text):
                     self.findings.doubts("codes", ASKS_CODES, cell)
-                elif zeros and re.fullmatch("[0-9]+", text) and len(text) < zeros:
-                    self.findings.doubts("codes", ASKS_CODES, cell, f"other codes have {zeros} digits and zeros before them, such as {text.zfill(zeros)}")
+                elif re.fullmatch("[0-9]+", text) and len(text) < width:
+                    self.findings.doubts("codes", ASKS_CODES, cell, f"{why}, such as {text.zfill(width)}")
 
     def look_at_sums(self) -> None:
         if len(self.programmes) > PROGRAMMES.most:
