@@ -1,6 +1,9 @@
 """The parts of checks/deploy for an evening that goes wrong: logs, slow downloads, a certificate, a disk, a clock, and many people behind one address."""
 import functools
+import itertools
 import os
+import random
+import re
 import resource
 import shutil
 import socket
@@ -11,6 +14,7 @@ from deployed import CLERK, CUT, bars, body, bundle_of, directly, in_threads, pa
 from deployed_bars import OWN, after_a_cut, files_in, token_of
 from deployed_files import script
 from front import HOST, Front, Office, Recorder, called, expired, read_reply, request, text_of
+from served import TOP
 
 REPLY = b"HTTP/1.1 404 Not Found\r\nContent-Length: 0\r\nConnection: close\r\n\r\n"
 SECONDS = 5
@@ -181,48 +185,78 @@ def clock(room, program):
 # ---- many people behind one address
 
 
-def patient_visit(nginx, cand, source, until):
-    """A visit by the page, which asks again after 429 as after 502; the seconds until the seat, and what did not come."""
-    begun, seat, lacks = time.monotonic(), None, []
+def patience():
+    """How long the page asks a busy office again, and its longest pause, in seconds."""
+    given = text_of(f"{TOP}/web/ask.js")
+    return [int(re.search(rf"^const {name} = ([0-9_]+);", given, re.M)[1]) / 1000 for name in ("PATIENCE", "LONGEST_WAIT")]
 
-    def asked(path, token=None):
-        while True:
-            try:
-                came = nginx.ask("GET", path, token, source=source)
-            except (OSError, EOFError):
-                came = None
+
+class Visitor:
+    """Somebody who asks over a kept connection, and again after 429 and 502 as the page does."""
+
+    def __init__(self, nginx, source, known):
+        self.nginx, self.source, self.known = nginx, source, known
+        self.link, self.held, self.lacks, self.waits = None, b"", [], 0
+
+    def once(self, path, token):
+        """The reply, or None if the connection ended before it."""
+        try:
+            self.link = self.link or self.nginx.connected(self.source)
+            self.link.sendall(request("GET", path, token, host=f"{HOST}:{self.nginx.port}"))
+            came, self.held = read_reply(self.link, self.held)
+            return came
+        except (OSError, EOFError):
+            self.close()
+            return None
+
+    def asked(self, path, token=None):
+        """The reply that ends the asking; notes what did not come."""
+        begun, (whole, longest) = time.monotonic(), self.known
+        for tries in itertools.count():
+            came = self.once(path, token)
             if came and came.status not in (429, 502):
                 return came
-            if time.monotonic() > until:
-                lacks.append(path)
+            if time.monotonic() - begun > whole:
+                self.lacks.append(path)
                 return came
-            time.sleep(2 + 2 * (hash((cand, path, time.monotonic())) % 100) / 100)
+            self.waits += 1
+            time.sleep(min(longest, 0.5 * 2**tries) * random.uniform(0.7, 1.3))
 
-    page = asked("/candidate/")
+    def close(self):
+        if self.link:
+            self.link.close()
+        self.link, self.held = None, b""
+
+
+def patient_visit(nginx, cand, source, known):
+    """A visit: the seconds until the seat, what did not come, and how often it had to ask again."""
+    begun, seat, visitor = time.monotonic(), None, Visitor(nginx, source, known)
+    page = visitor.asked("/candidate/")
     for it in files_in(page.body if page else b"", "/candidate/"):
-        asked(it)
+        visitor.asked(it)
     for it in OWN:
-        came = asked("/v1/" + it.format(cand), token_of(cand))
+        came = visitor.asked("/v1/" + it.format(cand), token_of(cand))
         if it.startswith("seat") and came and came.status == 200:
             seat = time.monotonic() - begun
-    return seat, lacks
+    visitor.close()
+    return seat, visitor.lacks, visitor.waits
 
 
 @part("bar: 2,000 visitors of one address", ["nginx", "openssl"])
 def crowd_of_one(room, program):
-    many, seconds = 2000, 60
+    many, seconds, known = 2000, 60, patience()
     with after_a_cut(room, program) as (nginx, _, people):
-        begun = time.monotonic()
 
         def visitor(number):
             time.sleep(seconds * number / many)
-            return patient_visit(nginx, number % people + 1, "127.0.0.21", begun + 240)
+            return patient_visit(nginx, number % people + 1, "127.0.0.21", known)
 
         came = in_threads([functools.partial(visitor, it) for it in range(many)])
         fine = [it for it in came if isinstance(it, tuple)]
         seats = [it[0] for it in fine if it[0] is not None]
         whole = sum(not it[1] and it[0] is not None for it in fine)
-        told = f"{len(seats)} of {many} have their seat, half within {sorted(seats)[len(seats) // 2]:.1f} s, the last after {max(seats, default=0):.1f} s; {whole} visits are whole"
+        waits = sum(it[2] for it in fine)
+        told = f"{len(seats)} of {many} have their seat, half within {sorted(seats)[len(seats) // 2]:.1f} s, the last after {max(seats, default=0):.1f} s; {whole} visits are whole, {waits} replies were 429"
         bars.add(f"{many} visitors of one address within {seconds} s get their seat", told, len(seats) == many == whole, f"{[it for it in fine if it[1]][:2]}")
 
 

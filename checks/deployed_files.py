@@ -60,6 +60,13 @@ def weak_bundles(given, tokens):
     ]
 
 
+def is_marked(store, label):
+    """By its first bytes, a store says whose it is: application_id is at byte 68, and user_version at byte 60."""
+    with open(store, "rb") as it:
+        head = it.read(100)
+    tally.same((head[68:72], head[60:64]), (b"Nach", bytes([0, 0, 0, 1])), f"the store is marked after {label}")
+
+
 @part("begin refuses")
 def begin_refuses(room, program):
     given, tokens = strong(bundle_of())
@@ -94,6 +101,13 @@ def begin(room, program):
     tally.holds(status == 3 and "already" in wrote, "begin begins once", f"{status} {wrote}")
     told = called([program, "resume", store], b"state,nobody\n")
     tally.holds(told == b"state window 0 rounds 2 published 0\n", "the season is there", f"{told}")
+    is_marked(store, "begin")
+    with Office(program, room) as office:
+        office.start()
+        directly(office, "POST", "/v1/cut", "Qm4xTz81vKpL", CUT)
+        office.kill()
+    called([program, "resume", store], b"state,nobody\n")
+    is_marked(store, "a cut, a kill and another start")
     hexed = re.sub(rb"tok0000(\d)|clerk0001", lambda it: hashlib.sha256(it[0]).hexdigest()[:32].encode(), bundle_of())
     status, wrote = script("begin", [f"{room}/hex.db"], program, hexed)
     tally.holds(status == 0, "begin takes tokens of 32 hexadecimal digits", f"{status} {wrote}")

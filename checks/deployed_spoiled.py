@@ -1,4 +1,5 @@
 """The parts of checks/deploy that give scripts what a spreadsheet program or a wrong name makes of a file: each says what to do, and none ends with a traceback."""
+import contextlib
 import csv
 import hashlib
 import io
@@ -84,6 +85,14 @@ def others_spoiled(room, program):
     odd_stores(room, program, given)
 
 
+def marked(room):
+    """The database without a table in which `begin` lets the office begin: what a begin leaves that is killed before the office runs."""
+    with contextlib.closing(sqlite3.connect(f"{room}/marked.db")) as base:
+        base.executescript("PRAGMA application_id = 0x4E616368; PRAGMA user_version = 1;")
+    with open(f"{room}/marked.db", "rb") as it:
+        return it.read()
+
+
 def odd_stores(room, program, given):
     """Stores that are there already: what an interrupted begin left is taken, and everything else is left as it is."""
     store = f"{room}/stores/season.db"
@@ -91,6 +100,7 @@ def odd_stores(room, program, given):
         ("an empty file", {"": b""}, True),
         ("an empty file with the first byte of a log", {"": b"", "-wal": b"\0"}, True),
         ("an empty file with the head of a log", {"": b"", "-wal": bytes(41)}, True),
+        ("a marked database without a table, and half of another", {"": marked(room), ".part": b"SQLite"}, True),
         ("a text", {"": b"hello\n"}, False),
         ("another database", {"": None}, False),
     ):
