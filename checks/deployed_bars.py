@@ -6,6 +6,8 @@ import os
 import re
 import shutil
 import signal
+import socket
+import ssl
 import subprocess
 import time
 import urllib.parse
@@ -13,7 +15,7 @@ import urllib.parse
 import browser
 import front
 from deployed import CLERK, bars, body, bundle_of, directly, fronted, in_threads, part, tally, timed
-from deployed_front import PROXYD, in_network_of, in_new_network, worker_group
+from deployed_front import PROXYD, haproxied, in_network_of, in_new_network, worker_group
 from front import CLERK_AT, HOST, Front, Office, called, found, read_reply, request, until
 
 SCHOOL = "127.0.0.20"
@@ -188,8 +190,8 @@ def office_texts(room, program):
 
 
 @contextlib.contextmanager
-def behind_the_door(room, program):
-    """The office in a network of its own, the door of the units, with the descriptors that they give it, and nginx."""
+def with_the_door(room, program):
+    """The office in a network of its own, and the door of the units, with the descriptors that they give it."""
     text = front.text_of(f"{front.DEPLOY}/nachodune-door.service")
     most = re.search(r"--connections-max=\d+", text)[0]
     files = re.search(r"^LimitNOFILE=(\d+)", text, re.M)
@@ -206,30 +208,57 @@ def behind_the_door(room, program):
             until(lambda: os.path.exists(sock), "the door")
             os.chmod(sock, 0o660)
             shutil.chown(sock, "root", worker_group())
-            with Front(room, f"unix:{sock}") as nginx:
-                until(lambda: nginx.ask("GET", "/v1/state").status == 200, "the office behind the door", 60)
-                yield nginx, office
+            yield sock, office
         finally:
             proxy.terminate()
             proxy.wait()
 
 
-@part("bar: 500 requests wait while the office stalls", ["nginx", "openssl", "root", "prlimit", "systemd-socket-activate", PROXYD])
+def stalls(office, ask, many):
+    """Has the office stall for 4 seconds while so many clients ask once: the statuses, how many connections the office's kernel refused meanwhile, and the seconds."""
+
+    def going_on():
+        time.sleep(4)
+        office.child.send_signal(signal.SIGCONT)
+
+    before = overflows(office)
+    office.child.send_signal(signal.SIGSTOP)
+    came, secs = timed(lambda: in_threads([*(functools.partial(ask, f"127.0.{20 + it // 100}.{it % 100 + 1}") for it in range(many)), going_on])[:-1])
+    return [getattr(it, "status", repr(it)) for it in came], overflows(office) - before, secs
+
+
+def overflows(office):
+    """How often the kernel refused a connection to the office, because those that wait for a worker were too many."""
+    names, numbers = [it.split() for it in front.text_of(f"/proc/{office.child.pid}/net/netstat").splitlines()[:2]]
+    return int(numbers[names.index("ListenOverflows")])
+
+
+DOORS = ["openssl", "root", "prlimit", "systemd-socket-activate", PROXYD]
+
+
+@part("bar: 500 requests wait while the office stalls", ["nginx", *DOORS])
 def stalled(room, program):
-    with behind_the_door(room, program) as (nginx, office):
-        office.child.send_signal(signal.SIGSTOP)
-
-        def client(number):
-            return nginx.ask("GET", "/v1/state", source=f"127.0.{20 + number // 100}.{number % 100 + 1}")
-
-        def going_on():
-            time.sleep(4)
-            office.child.send_signal(signal.SIGCONT)
-
-        came, secs = timed(lambda: in_threads([*(functools.partial(client, it) for it in range(500)), going_on])[:-1])
-        statuses = [getattr(it, "status", repr(it)) for it in came]
-        told = f"{statuses.count(200)} of 500 are answered, all within {secs:.1f} s"
+    with with_the_door(room, program) as (sock, office), Front(room, f"unix:{sock}") as nginx:
+        until(lambda: nginx.ask("GET", "/v1/state").status == 200, "the office behind the door", 60)
+        statuses, refused, secs = stalls(office, lambda source: nginx.ask("GET", "/v1/state", source=source), 500)
+        told = f"{statuses.count(200)} of 500 are answered, all within {secs:.1f} s; the kernel had {refused} come again"
         bars.add("500 requests wait while the office stalls for 4 s: none is reset", told, statuses.count(200) == 500, f"{[it for it in statuses if it != 200][:5]}")
+
+
+@part("bar: 500 requests wait in the queue of haproxy", ["haproxy", *DOORS])
+def queued(room, program):
+    with with_the_door(room, program) as (sock, office), haproxied(room, f"unix@{sock}") as (cert, port):
+        context = ssl.create_default_context(cafile=cert)
+
+        def ask(source):
+            with socket.create_connection(("127.0.0.1", port), timeout=30, source_address=(source, 0)) as bare, context.wrap_socket(bare, server_hostname=HOST) as link:
+                link.sendall(request("GET", "/v1/state"))
+                return read_reply(link)[0]
+
+        until(lambda: ask("127.0.0.5").status == 200, "the office behind haproxy and the door", 60)
+        statuses, refused, secs = stalls(office, ask, 500)
+        told = f"{statuses.count(200)} of 500 are answered, all within {secs:.1f} s; the kernel had {refused} come again"
+        bars.add("500 requests wait in haproxy while the office stalls for 4 s: none is reset", told, statuses.count(200) == 500 and not refused, f"{[it for it in statuses if it != 200][:5]}")
 
 
 # ---- a slow phone

@@ -1,4 +1,5 @@
 """The parts of checks/deploy that ask through nginx and haproxy: statuses, hosts and origins, limits, many clients, restarts, and the door."""
+import contextlib
 import ctypes
 import fcntl
 import functools
@@ -530,41 +531,47 @@ def used_up(room, program):
 # ---- haproxy
 
 
-@part("haproxy", ["haproxy", "openssl"])
-def haproxy(room, program):
-    bundle = bundle_of()
-    os.makedirs(f"{room}/office")
+@contextlib.contextmanager
+def haproxied(room, server, maxconn=64):
+    """haproxy by deploy/haproxy.cfg in front of a server, and its port; afterwards the checks look at its log."""
     cert, port = front.certificate(room), free_port()
     with open(f"{room}/both.pem", "w", encoding="utf-8") as it:
         it.write(text_of(cert) + text_of(f"{room}/key.pem"))
+    text = text_of(f"{DEPLOY}/haproxy.cfg")
+    for old, new in [
+        ("bind :443 ssl crt /etc/haproxy/office.example.pem", f"bind 127.0.0.1:{port} ssl crt {room}/both.pem"),
+        ("https://office.example", f"https://office.example:{port}"),
+        ("log /dev/log local0", "log stdout format raw daemon"),
+        ("server office unix@/run/nachodune/door.sock", f"server office {server}"),
+        ("maxconn 64", f"maxconn {maxconn}"),
+        ("!{ src 127.0.0.1 }", f"!{{ src {CLERK_AT} }}"),
+    ]:
+        tally.holds(text.count(old) == 1, f"haproxy.cfg has {old!r} once")
+        text = text.replace(old, new)
+    with open(f"{room}/haproxy.cfg", "w", encoding="utf-8") as it:
+        it.write(text)
+    called([found("haproxy"), "-c", "-f", f"{room}/haproxy.cfg"])
+    tally.holds(True, "haproxy takes its configuration")
+    with open(f"{room}/haproxy.log", "wb") as log:
+        child = subprocess.Popen([found("haproxy"), "-f", f"{room}/haproxy.cfg"], stdout=log, stderr=log)
+    try:
+        until(lambda: listeners(port), "the port of haproxy")
+        yield cert, port
+    finally:
+        child.terminate()
+        child.wait()
+    log = text_of(f"{room}/haproxy.log")
+    tally.holds("/v1/state" in log, "haproxy logs", log[-200:])
+    no_tokens(log, bundle_of(), "haproxy")
+
+
+@part("haproxy", ["haproxy", "openssl"])
+def haproxy(room, program):
+    os.makedirs(f"{room}/office")
     with Office(program, f"{room}/office") as office:
-        text = text_of(f"{DEPLOY}/haproxy.cfg")
-        for old, new in [
-            ("bind :443 ssl crt /etc/haproxy/office.example.pem", f"bind 127.0.0.1:{port} ssl crt {room}/both.pem"),
-            ("https://office.example", f"https://office.example:{port}"),
-            ("log /dev/log local0", "log stdout format raw daemon"),
-            ("server office unix@/run/nachodune/door.sock", f"server office 127.0.0.1:{office.port}"),
-            ("maxconn 64", "maxconn 2"),
-            ("!{ src 127.0.0.1 }", f"!{{ src {CLERK_AT} }}"),
-        ]:
-            tally.holds(text.count(old) == 1, f"haproxy.cfg has {old!r} once")
-            text = text.replace(old, new)
-        with open(f"{room}/haproxy.cfg", "w", encoding="utf-8") as it:
-            it.write(text)
-        called([found("haproxy"), "-c", "-f", f"{room}/haproxy.cfg"])
-        tally.holds(True, "haproxy takes its configuration")
-        office.start("new", workers=4, bundle=bundle)
-        with open(f"{room}/haproxy.log", "wb") as log:
-            child = subprocess.Popen([found("haproxy"), "-f", f"{room}/haproxy.cfg"], stdout=log, stderr=log)
-        try:
-            until(lambda: listeners(port), "the port of haproxy")
+        office.start("new", workers=4, bundle=bundle_of())
+        with haproxied(room, f"127.0.0.1:{office.port}", maxconn=2) as (cert, port):
             through_haproxy(cert, port, office)
-        finally:
-            child.terminate()
-            child.wait()
-        log = text_of(f"{room}/haproxy.log")
-        tally.holds("/v1/state" in log, "haproxy logs", log[-200:])
-        no_tokens(log, bundle, "haproxy")
 
 
 def through_haproxy(cert, port, office):
