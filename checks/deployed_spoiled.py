@@ -1,16 +1,20 @@
 """The parts of checks/deploy that give scripts what a spreadsheet program or a wrong name makes of a file: each says what to do, and none ends with a traceback."""
+import base64
+import concurrent.futures
 import contextlib
 import csv
+import gzip
 import hashlib
 import io
+import json
 import os
 import shutil
 import sqlite3
 import subprocess
 
-from deployed import bundle_of, part, tally
+from deployed import ANSWER, CLERK, CUT, SECOND, bundle_of, directly, part, tally
 from deployed_files import script, strong
-from front import SYSTEM, found, text_of
+from front import SYSTEM, Office, called, found, text_of
 from served import TOP
 
 NAMES = "programme,A,भौतिकी\r\ninstitute,I1,\"IIT, Delhi\"\r\nprogramme,B,José\r\n"
@@ -137,6 +141,112 @@ def more_weak(room, program):
     ):
         came = script("begin", [f"{room}/weak.db"], program, given.replace(tokens[0].encode(), token.encode()))
         tally.holds(came[0] == 3 and "easy to guess" in came[1], f"begin refuses weak tokens: {label}", f"{came}")
+
+
+# ---- one file spoiled in many ways
+
+
+def cut_short(data):
+    """Beginnings and ends of a file, and files with a byte that is another one."""
+    size = len(data)
+    for tenth in range(1, 11):
+        yield f"its first {tenth} of 11 parts", data[: size * tenth // 11]
+        yield f"its last {tenth} of 11 parts", data[size * tenth // 11 :]
+        at = size * tenth // 11
+        yield f"another byte {at}", data[:at] + bytes([data[at] ^ 0x55]) + data[at + 1 :]
+        yield f"a zero byte at {at}", data[:at] + b"\0" + data[at:]
+
+
+def written_otherwise(data):
+    """The same text in other letters, signs and line ends, or the bytes where they are none."""
+    text = data.decode("utf-8", errors="replace").removeprefix("\ufeff")
+    for name in ("utf-16", "utf-16-le", "utf-16-be", "utf-32", "utf-7", "cp1252", "cp037", "shift_jis"):
+        yield f"in {name}", text.encode(name, errors="replace")
+    for label, old, given in (
+        ("old line ends", "\n", "\r"), ("no line ends", "\n", " "), ("empty lines", "\n", "\n\n"), ("semicolons", ",", ";"), ("tabs", ",", "\t"), ("bars", ",", "|"),
+        ("no commas", ",", ""), ("many commas", ",", ",,,,"), ("blanks around its fields", ",", " , "), ("open quotes", ",", ',"'), ("quotes", ",", '","'), ("formulas", ",", ",="),
+        ("marks of direction", ",", "\u200e,\u202a"), ("digits of Hindi", "1", "\u0967"), ("lost letters", "a", "??"), ("large letters", "", ""),
+    ):
+        yield f"with {label}", (text.replace(old, given) if old else text.upper()).encode()
+
+
+def made_of(data):
+    """Files made of a file: twice, turned around, packed, in another format, or with something before or behind it."""
+    lines = data.split(b"\n")
+    yield from (
+        ("twice", data * 2), ("its lines turned around", b"\n".join(lines[::-1])), ("its lines in order", b"\n".join(sorted(lines))), ("without its first line", b"\n".join(lines[1:])),
+        ("every other line", b"\n".join(lines[::2])), ("each line twice", b"\n".join(it for line in lines for it in (line, line))), ("packed by gzip", gzip.compress(data)),
+        ("in base64", base64.b64encode(data)), ("in hexadecimal digits", data.hex().encode()), ("as JSON", json.dumps(data.decode("latin-1")).encode()), ("two marks", b"\xef\xbb\xbf" * 2 + data),
+        ("sep=;", b"sep=;\r\n" + data), ("a title", b"Ministry of Education\n\n" + data), ("a million bytes behind it", data + b"x" * 1_000_000), ("a million commas behind it", data + b"," * 1_000_000),
+        ("bytes of no text", data + bytes(range(128, 256))), ("only line ends", b"\n" * 1000), ("only marks", b"\xef\xbb\xbf" * 100), ("a signature", b"-----BEGIN PGP MESSAGE-----\n" + base64.b64encode(data)),
+    )
+
+
+def spoilt(data):
+    """A file spoiled in more than 90 ways, each with its name."""
+    found = [*cut_short(data), *written_otherwise(data), *made_of(data), *JUNK.items()]
+    tally.holds(len(found) > 90, "a file is spoiled in more than 90 ways", f"{len(found)}")
+    return found
+
+
+def tried_with(room, data, call):
+    """What a program says of a file spoiled in each way, and whether it changed what was there: none may end with a traceback, and each refusal has words."""
+
+    def fault(label, spoiled, number):
+        folder = f"{room}/{number}"
+        os.makedirs(folder)
+        with open(f"{folder}/spoiled", "wb") as it:
+            it.write(spoiled)
+        status, wrote, left = call(folder)
+        if status == 0:
+            return None
+        is_said = "Traceback" not in wrote and wrote.strip() and status in (1, 3)
+        return None if is_said and not left else f"{label}: {status} {wrote[-300:]} {left[:3]}"
+
+    with concurrent.futures.ThreadPoolExecutor(4) as lanes:
+        return [it for it in lanes.map(fault, *zip(*((label, it, at) for at, (label, it) in enumerate(spoilt(data))))) if it]
+
+
+def store_of(room, program):
+    """The bytes of a store with a cut and an answer."""
+    with Office(program, room) as office:
+        office.start("new", bundle=bundle_of())
+        directly(office, "POST", "/v1/cut", CLERK, CUT)
+        directly(office, "POST", "/v1/answer", SECOND, ANSWER)
+        office.kill()
+    called([program, "resume", f"{room}/season.db"], b"state,nobody\n")
+    with open(f"{room}/season.db", "rb") as it:
+        return it.read()
+
+
+@part("four programs over a file spoiled in 90 ways")
+def spoiled_in_many_ways(room, program):
+    """tools/season, announce, begin and counts, each over its own kind of file."""
+
+    def seasons(folder):
+        put_season(folder)
+        os.replace(f"{folder}/spoiled", f"{folder}/register.csv")
+        status, wrote, said = season(folder, "--yes")
+        return status, said, [it for it in os.listdir(folder) if it in ("tokens.csv", "names.csv")] + [it for it in (wrote,) if it and status]
+
+    def announces(folder):
+        os.makedirs(f"{folder}/papers")
+        return *script("announce", [f"{folder}/papers", "names", f"{folder}/spoiled"], program), os.listdir(f"{folder}/papers")
+
+    def begins(folder):
+        os.makedirs(f"{folder}/store")
+        with open(f"{folder}/spoiled", "rb") as it:
+            return *script("begin", [f"{folder}/store/season.db"], program, it.read()), os.listdir(f"{folder}/store")
+
+    def counts(folder):
+        return *script("counts", [f"{folder}/spoiled"], program), [it for it in os.listdir(folder) if it != "spoiled"]
+
+    bundle, _ = strong(bundle_of())
+    os.makedirs(f"{room}/store")
+    for name, call, data in (("season", seasons, REGISTER.encode()), ("announce", announces, NAMES.encode()), ("begin", begins, bundle), ("counts", counts, store_of(f"{room}/store", program))):
+        os.makedirs(f"{room}/{name}")
+        faults = tried_with(f"{room}/{name}", data, call)
+        tally.holds(not faults, f"{name} over a file spoiled in many ways", f"{len(faults)}: {faults[:3]}")
 
 
 # ---- tokens.csv
