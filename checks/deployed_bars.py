@@ -216,14 +216,11 @@ def with_the_door(room, program):
 
 def stalls(office, ask, many):
     """Has the office stall for 4 seconds while so many clients ask once: the statuses, how many connections the office's kernel refused meanwhile, and the seconds."""
-
-    def going_on():
-        time.sleep(4)
-        office.child.send_signal(signal.SIGCONT)
-
     before = overflows(office)
     office.child.send_signal(signal.SIGSTOP)
-    came, secs = timed(lambda: in_threads([*(functools.partial(ask, f"127.0.{20 + it // 100}.{it % 100 + 1}") for it in range(many)), going_on])[:-1])
+    # a program of its own, because a thread would wait for the clients' threads where the machine is busy
+    with subprocess.Popen(["sh", "-c", f"sleep 4; kill -CONT {office.child.pid}"]):
+        came, secs = timed(lambda: in_threads([functools.partial(ask, f"127.0.{20 + it // 100}.{it % 100 + 1}") for it in range(many)]))
     return [getattr(it, "status", repr(it)) for it in came], overflows(office) - before, secs
 
 

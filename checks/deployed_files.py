@@ -12,6 +12,7 @@ import socket
 import sqlite3
 import ssl
 import subprocess
+import sys
 import threading
 import time
 import types
@@ -297,7 +298,8 @@ def keep_copy_running(room, program):
 def emptied_meanwhile(room, program, office, many):
     """The office empties its log after the store was copied and before the log is: keep-copy begins again, and the copy has every answer."""
     module = types.ModuleType("keep_copy")
-    exec(compile(text_of(f"{DEPLOY}/keep-copy"), "keep-copy", "exec"), module.__dict__)
+    with mock.patch.object(sys, "path", [DEPLOY, *sys.path]):
+        exec(compile(text_of(f"{DEPLOY}/keep-copy"), "keep-copy", "exec"), module.__dict__)
     store, begun, copyfile = f"{room}/season.db", [], shutil.copyfile
 
     def copied(one, to):
