@@ -997,7 +997,7 @@ def made_root(room, program):
     return root
 
 
-@part("the units under a running systemd", ["root", "systemd-nspawn", "setpriv", "nginx", "openssl", "curl"], rooms=None)
+@part("the units under a running systemd", ["root", "systemd-nspawn", "setpriv", "nginx", "openssl", "curl", "logrotate"], rooms=None)
 def booted(room, program):
     root = made_root(room, program)
     groups = [f"/sys/fs/cgroup{at}/{name}" for at in ("", "/unified", "/systemd") for name in ("payload", "supervisor")]
