@@ -330,6 +330,10 @@ def beginning(tally) -> None:
         tally.same(called("state", f"{room}/copy.db"), called("state", path), "a copy")
         called("copy", path, f"{room}/copy.db", status=1)
         most(tally, store.Store(f"{room}/copy.db"))
+        for given in (b"", b"no store", b"SQLite format 3\0" + bytes(4080)):
+            with open(f"{room}/other.db", "wb") as it:
+                it.write(given)
+            tally.holds("is no store of lists" in called("serve", f"{room}/other.db", status=3), "a file that is no store is not served, and a person has to look")
         base = sqlite3.connect(path)
         base.execute("UPDATE entry SET codes = 'A B'")
         base.commit()

@@ -27,6 +27,10 @@ class Refused(Exception):
     """Why nothing was kept, as the name of a sentence of the pages."""
 
 
+class NoStore(Exception):
+    """A file that is no store of lists, so that a person has to look."""
+
+
 class Entry(NamedTuple):
     """A receipt: its number, the candidate, the time in milliseconds, what was kept, and the digest of the list."""
 
@@ -111,10 +115,16 @@ class Store:
     def __init__(self, path: str) -> None:
         if not os.path.isfile(path):
             raise FileNotFoundError(f"there is no store {path}")
-        self.base = opened(path)
-        self.key, self.salt = self.fixed("key"), self.fixed("salt")
-        rows = self.base.execute("SELECT code, institute, merit, home, others FROM programme ORDER BY at")
-        self.programmes = {row[0]: Programme(*row) for row in rows}
+        try:
+            self.base = opened(path)
+            self.key, self.salt = self.fixed("key"), self.fixed("salt")
+            rows = self.base.execute("SELECT code, institute, merit, home, others FROM programme ORDER BY at")
+            self.programmes = {row[0]: Programme(*row) for row in rows}
+        except sqlite3.DatabaseError as why:
+            # a full or failing disk is an OperationalError, and passes
+            if isinstance(why, sqlite3.OperationalError) and not str(why).startswith("no such table"):
+                raise
+            raise NoStore(f"{path} is no store of lists: {why}") from None
         self.known: dict = {}
 
     def fixed(self, name: str):
