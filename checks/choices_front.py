@@ -2,6 +2,7 @@
 import contextlib
 import os
 import re
+import subprocess
 import tempfile
 import time
 from typing import Iterator
@@ -105,12 +106,18 @@ def headers(tally, who: Visitor) -> None:
 
 
 def ways(tally, room: str, nginx: Front) -> None:
-    """Looks whether fill adds its lines once, and leaves the other pages as they are."""
-    before = text_of(f"{room}/conf/nachodune.conf")
-    ran([f"{TOP}/deploy/choices/fill", f"{room}/conf", f"CHOICES=unix:{room}/choices.sock"])
-    tally.same(text_of(f"{room}/conf/nachodune.conf"), before, "fill adds its lines once")
-    tally.same((before.count("choices.conf"), before.count("choices-zones.conf")), (1, 1), "the lines that fill adds")
+    """Looks whether fill leaves nachodune.conf and the other pages as they are, and refuses a nachodune.conf that does not include its files."""
+    before, call = text_of(f"{room}/conf/nachodune.conf"), f"{TOP}/deploy/choices/fill"
+    ran([call, f"{room}/conf", f"CHOICES=unix:{room}/choices.sock"])
+    tally.same(text_of(f"{room}/conf/nachodune.conf"), before, "fill leaves nachodune.conf as it is")
+    policy = [re.search("max-age=([0-9]+)", text_of(f"{room}/conf/{it}"))[1] for it in ("headers.conf", "choices-headers.conf")]
+    tally.same(policy[1], policy[0], "how long browsers keep to TLS")
     tally.holds("form-action 'none'" in nginx.ask("GET", "/candidate/").fields.get("content-security-policy", ""), "the candidate's page keeps its policy")
+    os.makedirs(f"{room}/older")
+    with open(f"{room}/older/nachodune.conf", "w", encoding="utf-8") as it:
+        it.write(re.sub(r".*/choices.*\n", "", before))
+    came = subprocess.run([call, f"{room}/older"], capture_output=True, text=True)
+    tally.holds(came.returncode == 2 and "deploy/site" in came.stderr and os.listdir(f"{room}/older") == ["nachodune.conf"], "fill with an older nachodune.conf", f"{came}")
 
 
 def limits(tally, nginx: Front) -> None:

@@ -617,7 +617,7 @@ def quick_sleep(room):
 
 # ---- what is installed
 
-UNITS = tuple(sorted(it for it in os.listdir(DEPLOY) if it.startswith("nachodune") and it.endswith((".service", ".socket", ".timer", ".path"))))
+UNITS = (*sorted(it for it in os.listdir(DEPLOY) if it.startswith("nachodune") and it.endswith((".service", ".socket", ".timer", ".path"))), "nachodune-choices.service")
 SCRIPTS = ("alert", "announce", "begin", "counts", "empty-texts", "go-back", "keep-copy", "papers", "pause", "run-office", "upgraded", "watch")
 
 
@@ -651,6 +651,8 @@ def install(room, program):
         "usr/share/doc/nachodune/RUNNING.md",
         *(f"usr/share/doc/nachodune/docs/{it}.md" for it in ("RULES", "FORMATS", "CHECKING")),
         *(f"usr/lib/nachodune/tools/{it}" for it in os.listdir(f"{TOP}/tools") if it != "README.md" and it != "__pycache__"),
+        *(f"usr/lib/nachodune/choices/{it}" for it in os.listdir(f"{DEPLOY}/choices") if it not in ("README.md", "nachodune-choices.service", "__pycache__")),
+        "usr/share/doc/nachodune/deploy/choices/README.md",
         "usr/share/nachodune/web/index.html",
     }
     tally.holds(wanted <= set(there), "install puts everything at its place", f"{sorted(wanted - set(there))}")
@@ -959,8 +961,8 @@ StandardError=append:/trial.log
 HOST_FILES = ("passwd", "group", "login.defs", "nsswitch.conf", "ld.so.cache", "ld.so.conf", "ld.so.conf.d", "nginx", "alternatives", "ssl/openssl.cnf")
 
 
-def made_root(room, program):
-    """A folder that systemd can boot from, with the programs of this machine, a checkout at /top, and nothing installed of it yet."""
+def made_root(room, program, trial=TRIAL):
+    """A folder that systemd can boot from, with the programs of this machine, a checkout at /top, and nothing installed of it yet; it runs a trial."""
     root = f"{room}/root"
     for name in ("etc/ssl", "etc/systemd/system", "etc/systemd/system.conf.d", "second", "usr", "var/lib/nginx", "var/log/nginx", "var/tmp", "run", "tmp", "proc", "sys", "dev", "root", "home"):
         os.makedirs(f"{root}/{name}")
@@ -983,7 +985,7 @@ def made_root(room, program):
     ):
         shutil.copy(path, f"{root}/{name}")
     for name, text in (
-        ("trial", TRIAL),
+        ("trial", trial),
         ("limits.py", LIMITS),
         ("etc/systemd/system.conf.d/short.conf", "[Manager]\nDefaultTimeoutStartSec=5s\n"),
         ("bundle.txt", strong(bundle_of())[0].decode()),
@@ -997,9 +999,8 @@ def made_root(room, program):
     return root
 
 
-@part("the units under a running systemd", ["root", "systemd-nspawn", "setpriv", "nginx", "openssl", "curl", "logrotate"], rooms=None)
-def booted(room, program):
-    root = made_root(room, program)
+def seen_in(room, root, seconds=900):
+    """Boots systemd in a folder, and returns what its trial saw, by name."""
     groups = [f"/sys/fs/cgroup{at}/{name}" for at in ("", "/unified", "/systemd") for name in ("payload", "supervisor")]
     groups = [it for it in groups if not os.path.exists(it)]
     words = [found("systemd-nspawn"), "--quiet", "--register=no", "--keep-unit", f"--directory={root}", "--overlay=/usr::/usr"]
@@ -1007,14 +1008,20 @@ def booted(room, program):
     with open(f"{room}/boot.log", "wb") as log:
         child = subprocess.Popen(words, stdin=subprocess.DEVNULL, stdout=log, stderr=log)
     try:
-        child.wait(900)
+        child.wait(seconds)
     except subprocess.TimeoutExpired:
         child.terminate()
         child.wait(60)
     for folder in (at for it in groups for at, *_ in os.walk(it, topdown=False)):
         with contextlib.suppress(OSError):
             os.rmdir(folder)
-    seen = dict(it.partition("=")[::2] for it in text_of(f"{root}/trial.out").splitlines())
+    return dict(it.partition("=")[::2] for it in text_of(f"{root}/trial.out").splitlines())
+
+
+@part("the units under a running systemd", ["root", "systemd-nspawn", "setpriv", "nginx", "openssl", "curl", "logrotate"], rooms=None)
+def booted(room, program):
+    root = made_root(room, program)
+    seen = seen_in(room, root)
     if "installed" not in seen:
         tally.skips("the units under a running systemd", f"a container that boots ({text_of(f'{room}/boot.log').strip()[-200:]})")
         return
