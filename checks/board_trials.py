@@ -1,7 +1,8 @@
 """A board's own sheets: examples/board-sheets becomes a season by tools/season alone, plain and with home-state quotas, and spoiled sheets are refused in words.
 
 Without a program: the guess of the columns, the bundle, the same numbers and tokens at the next call, workbooks where a library is installed, and spoiled files.
-Over a program: it counts both bundles, their dossiers are sound by both auditors, and the mock round of both is round 1."""
+Over a program: it counts both bundles, and most candidates answer over three rounds. Both dossiers are sound by both auditors, their ranks are those of a plain
+program over the register and the lists, tables and letters have the board's own columns, and the mock round is round 1."""
 import csv
 import functools
 import importlib
@@ -15,6 +16,7 @@ import tempfile
 from typing import Callable, Iterator, NamedTuple, Optional
 
 import cases
+import table_trials
 from plain_audit import verdict
 
 TOP = os.path.dirname(os.path.dirname(os.path.realpath(__file__)))
@@ -321,16 +323,56 @@ def spoiled() -> list:
 
 def fault_of_season(program: str, with_quotas: bool) -> Optional[str]:
     """Why the program does not take the season of the example through its rounds, or None."""
+    label, words = (f"examples/board-sheets{' with quotas' if with_quotas else ''}", ["units" if with_quotas else "run", "memory"])
+    call = lambda words, given: cases.called(program, words, given, "/")
     with tempfile.TemporaryDirectory(prefix="board-", dir=cases.ROOMS) as room:
         bundle = walked(room, with_quotas)
-    call = lambda words, given: cases.called(program, words, given, "/")
-    given = bundle + b"[requests]\n" + b"".join(b"cut,clerk,%d\n" % it for it in range(4))
-    dossier = of_bundle(call, given)
-    sound = b"audit sound rounds 3\nbest\n", 0
-    found = call(["audit", "best"], dossier), verdict(dossier, True)
-    if found != (sound, sound):
-        return f"examples/board-sheets{' with quotas' if with_quotas else ''}: audit best says {found[0]}, and the plain auditor {found[1]}"
-    return fault_of_count(program, bundle, KINDS[with_quotas][1], with_quotas) or fault_of_mock(program, bundle, call(["units" if with_quotas else "run", "memory"], given)[0])
+        given = with_answers(lambda given: call(words, given)[0], bundle)
+        dossier = of_bundle(call, given)
+        sound = b"audit sound rounds 3\nbest\n", 0
+        found = call(["audit", "best"], dossier), verdict(dossier, True)
+        if found != (sound, sound):
+            return f"{label}: audit best says {found[0]}, and the plain auditor {found[1]}"
+        why = table_trials.of_dossier(label, dossier) or fault_of_papers(room, label, dossier)
+    return why or fault_of_count(program, bundle, KINDS[with_quotas][1], with_quotas) or fault_of_mock(program, bundle, call(words, given)[0])
+
+
+# what a candidate answers to the first offer, by the last digit of the number; nobody else answers
+ANSWERS = {**dict.fromkeys("02468", "float"), "1": "freeze", "3": "slide", "5": "withdraw", "7": "freeze"}
+
+
+def with_answers(told: Callable, bundle: bytes) -> bytes:
+    """Returns the bundle with the requests of its three rounds; most candidates answer their first offer, and some are no-shows."""
+    given, seen = bundle + b"[requests]\n", set()
+    for window in range(4):
+        given += b"cut,clerk,%d\n" % window
+        offers = told(given).rpartition(b"\nround %d seated" % (window + 1))[2] if window < 3 else b""
+        new = [it for it in re.findall(r"^allot (\d+) ", offers.decode(), re.M) if it not in seen]
+        seen.update(new)
+        given += "".join(f"answer,{it},{it},{window + 1},1,{ANSWERS[it[-1]]}\n" for it in new if it[-1] in ANSWERS).encode()
+    return given
+
+
+def fault_of_papers(room: str, label: str, dossier: bytes) -> Optional[str]:
+    """Why the tables and the letters do not have each admitted candidate with the board's own columns and names, or None; without its library no letter is written."""
+    put_file(f"{room}/dossier.txt", dossier)
+    own = ["--names", f"{room}/tokens.csv", "--codes", f"{room}/names.csv"]
+    _, said, status = table_trials.called("tools/tables", [f"{room}/dossier.txt", f"{room}/tables", *own])
+    if status:
+        return f"tools/tables, {label}: status {status}: {said[-200:]}"
+    header, *rows = table_trials.table(f"{room}/tables/allotments.csv")
+    seats = [dict(zip(header, row)) for row in rows]
+    people, places = ({row[at]: row[to] for row in rows_of(f"{room}/{name}.csv")} for name, at, to in (("register", 1, 2), ("names", 1, 2)))
+    wrong = [it for it in seats if people.get(it["application_number"]) != it["name"] or places.get(it["institute"]) != it["institute name"]]
+    if len(seats) < 20 or wrong:
+        return f"tools/tables, {label}: {len(seats)} seats, and {wrong[:1]}"
+    _, said, status = table_trials.called("tools/letters", [f"{room}/dossier.txt", f"{room}/letters", *own])
+    if status == 1 and "apt-get install python3-gi" in said:
+        return None
+    letters = [] if status else [row[3:5] for row in table_trials.table(f"{room}/letters/codes-final.csv")[1:]]
+    if sorted(letters) != sorted([it["application_number"], it["name"]] for it in seats):
+        return f"tools/letters, {label}: status {status}, {letters[:2]}: {said[-200:]}"
+    return None
 
 
 def fault_of_count(program: str, bundle: bytes, told: bytes, with_quotas: bool) -> Optional[str]:
