@@ -302,6 +302,9 @@ def fault_of_spoiled(it: Spoiled, confirmed: dict) -> Optional[str]:
         after = {name: os.stat(f"{room}/{name}").st_mtime_ns for name in os.listdir(room)}
     if "Traceback" in said or status != it.status or bool(wrote) != (status == 0) or not re.search(it.says, said):
         return f"tools/season, {it.name}: status {status}, {len(wrote)} bytes: {said[-400:]!r}, and not {it.says!r}"
+    reports, most = len(re.findall(r"season: (?:\w+.csv, row|question )", said)), 2 if re.search("perhaps it is one|has this place too", said) else 1
+    if it.file == "register.csv" and " row " in it.name and reports > most:
+        return f"tools/season, {it.name}: it lists what follows from this error too: {said[-400:]!r}"
     if status and {name: time for name, time in after.items() if name != "columns.csv"} != {name: time for name, time in before.items() if name != "columns.csv"}:
         return f"tools/season, {it.name}: it wrote {[*set(after) ^ set(before)] or 'a file anew'}"
     return None

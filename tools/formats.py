@@ -91,6 +91,7 @@ ALLOWED = {
     "list": f"the merit list is {LISTS.range()}",
     "step": f"a step is {listed(STEPS)}; the office makes step D itself",
     "seats": f"seats are {SEATS.range()}",
+    "wide seats": f"seats are {SEATS.range()}, and nothing means 0",
     "protection": f"protected seats are {SEATS.range()}, and nothing means 0",
     "rounds": f"rounds are {ROUNDS.range()}",
     "asker": "who asks is clerk, nobody or a candidate number",

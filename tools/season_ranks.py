@@ -19,11 +19,12 @@ ASKS_PWD = "these persons with disabilities have a relaxed rank in their categor
 
 
 class Ranked(NamedTuple):
-    """A candidate of a merit list: the ranks by their lists, each with its field. The common list is the list ``."""
+    """A candidate of a merit list: the ranks by their lists, each with its field, and the columns of ranks that cannot be read. The common list is the list ``."""
 
     one: Any
     ranks: dict
     cells: dict
+    unread: set
 
     def first(self) -> Optional[str]:
         """Returns the list that decides the place."""
@@ -38,7 +39,7 @@ def lists_of(name: str, table: Any) -> dict:
 
 def read_ranks(one: Any, merit: str, cells: dict, findings: Findings) -> Ranked:
     """Returns the ranks of a candidate, from fields by their lists. A rank in the list of another category is wrong."""
-    found = Ranked(one, {}, {})
+    found = Ranked(one, {}, {}, set())
     for of, cell in cells.items():
         if cell.text.lower() in NO_RANK:
             if cell.text:
@@ -49,6 +50,7 @@ def read_ranks(one: Any, merit: str, cells: dict, findings: Findings) -> Ranked:
         category = name.removesuffix("PwD").strip()
         if rank is None:
             one.refused.add(merit)
+            found.unread.add(of)
         elif category and category != one.category and one.category:
             findings.wrong(cell, f"this is the list of {category}, and the candidate's category is {one.category}")
             one.refused.add(merit)
@@ -73,9 +75,10 @@ def looks_at_repeats(people: Iterable, findings: Findings) -> None:
 
 
 def looks_at_order(people: list, findings: Findings) -> None:
-    """Asks if the list of a category has another order than the common list, or ranks somebody without a common rank before somebody with one."""
+    """Asks if the list of a category has another order than the common list, or ranks somebody without a common rank before somebody with one. Who has a rank that
+    could not be read is left out, because that error is reported already."""
     for of in BEHIND:
-        within = sorted((it for it in people if of in it.ranks), key=lambda it: it.ranks[of])
+        within = sorted((it for it in people if of in it.ranks and not it.unread), key=lambda it: it.ranks[of])
         keys = [(it.ranks.get("", PLACE.most + 1), it.ranks[of]) for it in within]
         for before, after, one, other in zip(keys, keys[1:], within, within[1:]):
             if before > after:

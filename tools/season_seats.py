@@ -280,7 +280,7 @@ class Matrix:
 
     def take_wide(self, name: Optional[str], row: int, institute: Optional[str], merit: Optional[int], cells: dict, steps: list) -> None:
         """Takes a row of JoSAA's form: a column for each step, and one for each step's persons with disabilities."""
-        found = {it: number(cells[it], SEATS, ALLOWED["protection"], self.findings) if cells[it].text not in ("", "-") else 0 for it in steps}
+        found = {it: number(cells[it], SEATS, ALLOWED["wide seats"], self.findings) if cells[it].text not in ("", "-") else 0 for it in steps}
         total = number(cells["total"], ALL_SEATS, "a total is a number", self.findings) if "total" in cells and cells["total"].text else None
         female = is_female_pool(cells["pool"], self.findings) if "pool" in cells else False
         if None in found.values() or name is None or female is None:

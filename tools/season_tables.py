@@ -108,6 +108,9 @@ class Register:
         self.taken: dict = {}
         # the candidates by fields of the choices that are written as in the register
         self.found: dict = {}
+        # how many rows have a candidate whose number was refused, and the fields of the choices by numbers that no row has
+        self.lost = 0
+        self.unknown: dict = {}
         self.without_zeros: Optional[dict] = None
         self.remarks: list = []
         self.ranked: dict = {}
@@ -174,6 +177,7 @@ class Register:
         one = Candidate(row, key if self.key == "number" else None, key if self.key != "number" and key else "")
         if key is None:
             self.refused.add(cell.text)
+            self.lost += 1
         elif key in self.rows:
             self.look_at_twice(cell, key, fields)
             return
@@ -201,6 +205,7 @@ class Register:
             if one != other and meaning != self.key:
                 differ.append(f"{self.table.name(at)}" if meaning == "token" else f"{self.table.name(at)} (`{one:.30}` there, `{other:.30}` here)")
         if differ:
+            self.lost += 1
             self.findings.wrong(cell, f"row {row} has this candidate too; the rows differ in {listed(differ, 'and')}")
         else:
             self.findings.doubts("twice", ASKS_TWICE, cell, f"row {row} has the same")
@@ -245,8 +250,17 @@ class Register:
         if key is None or key in self.by_key:
             return self.by_key.get(key)
         near = self.near(str(key))
-        self.findings.wrong(cell, f"{self.file} has no such candidate{f'; it has {near}: a spreadsheet program drops zeros at the beginning' if near else ''}")
+        if near:
+            self.findings.wrong(cell, f"{self.file} has no such candidate; it has {near}: a spreadsheet program drops zeros at the beginning")
+        else:
+            self.unknown.setdefault(key, []).append(cell)
         return None
+
+    def looks_at_unknown(self) -> None:
+        """Reports the candidates of the choices whom no row has. If the number of a row was refused, they may be in that row, and then one report of each is enough."""
+        for cells in self.unknown.values():
+            for cell in cells[:1] if self.lost else cells:
+                self.findings.wrong(cell, f"{self.file} has no such candidate{'; perhaps it is one whose number is wrong there' if self.lost else ''}")
 
     def near(self, key: str) -> Optional[str]:
         if self.without_zeros is None:
@@ -269,6 +283,7 @@ class Choices:
             return
         self.file = table.file
         self.take_all()
+        register.looks_at_unknown()
         count = sum(map(len, self.lists.values()))
         if count > ALL_CHOICES.most:
             findings.wrong_file(self.file, f"{count:,} choices are too many: at most {ALL_CHOICES.most:,} in all")

@@ -67,7 +67,7 @@ def number(cell: Cell, limit: Limit, allowed: str, findings: Findings, whole: Op
         more = "; call a column of longer numbers `application number`, and the tool numbers the candidates"
     elif re.fullmatch(r"[0-9.,]+[eE][+]?[0-9]+", text):
         more = "; the spreadsheet shortened the number: format the column as a number without decimals"
-    elif re.fullmatch(r"[0-9]+[.,][0-9]+", text):
+    elif limit is PLACE and re.fullmatch(r"[0-9]+[.,][0-9]+", text):
         more = "; two candidates with one mark need an order: break ties before"
     findings.wrong(seen, allowed + more)
     return None
