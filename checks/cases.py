@@ -5,6 +5,7 @@ import shlex
 import sqlite3
 import subprocess
 import tempfile
+from typing import Callable, Optional, Union
 
 SECONDS = 120
 # the tables of a store are strict, which older ones do not know
@@ -22,11 +23,15 @@ class Wrong(Exception):
 class Call:
     """The program called once: its words, its input, and how it has to end."""
 
-    def __init__(self, words):
+    source: list[bytes]
+    wanted: list[bytes]
+    row: Optional[int]
+
+    def __init__(self, words: str) -> None:
         self.piped = [shlex.split(it) for it in words.split(" | ")]
         self.words, self.source, self.wanted, self.status, self.row = self.piped[-1], [], [], 0, None
 
-    def copy(self):
+    def copy(self) -> "Call":
         made = Call("")
         made.__dict__.update(self.__dict__, source=[*self.source], wanted=[*self.wanted])
         return made
@@ -35,20 +40,24 @@ class Call:
 class Case:
     """Calls of the program, and statements on its store between them, one after another in a folder of their own."""
 
-    def __init__(self, label):
+    steps: list[Union[Call, str]]
+    rows: list[tuple[int, str, str]]
+
+    def __init__(self, label: str) -> None:
         self.label, self.steps, self.rows = label, [], []
 
-    def is_one_call(self):
-        return len(self.steps) == 1 and len(self.steps[0].piped) == 1
+    def is_one_call(self) -> bool:
+        return len(self.steps) == 1 and isinstance(self.steps[0], Call) and len(self.steps[0].piped) == 1
 
-    def is_large(self):
+    def is_large(self) -> bool:
         return any(not isinstance(it, str) and sum(map(len, it.source)) > 1_000_000 for it in self.steps)
 
-    def of_row(self, number, given, line):
+    def of_row(self, number: int, given: str, line: str) -> "Case":
         """The case of one row of a table: what is given replaces the statement of the line `!=`, or else the line `>=`, or else follows the input."""
         made = Case(f"{self.label}, line {number}")
         made.steps = [it.copy() if isinstance(it, Call) else it or given for it in self.steps]
         call = made.steps[-1]
+        assert isinstance(call, Call)
         if call.row is not None:
             call.source.insert(call.row, unescaped(given) + b"\n" * (given != ""))
         elif "" not in self.steps:
@@ -57,11 +66,12 @@ class Case:
         return made
 
 
-def unescaped(text):
-    def one(found):
+def unescaped(text: str) -> bytes:
+    def one(found: re.Match[str]) -> bytes:
         return bytes([int(found[1], 16)]) if found[1] else OF_LETTER[found[2]]
 
-    parts, at = [], 0
+    parts: list[bytes] = []
+    at = 0
     for found in ESCAPE.finditer(text):
         parts += [text[at : found.start()].encode(), one(found)]
         at = found.end()
@@ -71,41 +81,51 @@ def unescaped(text):
 # ---- large inputs, each by a call in a line `>! NAME NUMBER..`
 
 
-def candidates(count):
+def candidates(count: int) -> str:
     return "".join(f"1{at:06},GEN,-,token{at:06},1{at:06}\n" for at in range(count))
 
 
-def programmes(count, seats):
+def programmes(count: int, seats: int) -> str:
     return "".join(f"P{at},I1,1,OPEN,{seats}\n" for at in range(count))
 
 
-def longest_choices(count):
+def longest_choices(count: int) -> str:
     """So many candidates who each name a thousand programmes."""
     names = ",".join(f"P{at}" for at in range(1000))
     return "".join(f"1{at:06},{names}\n" for at in range(count))
 
 
-def choices_of_one(count):
+def choices_of_one(count: int) -> str:
     """Candidate 1, who names programme A so many times."""
     return "1" + ",A" * count + "\n"
 
 
-def empty_lines(count):
+def empty_lines(count: int) -> str:
     return "\n" * count
 
 
-LARGE = {it.__name__: it for it in (candidates, programmes, longest_choices, choices_of_one, empty_lines)}
+LARGE: dict[str, Callable[..., str]] = {
+    "candidates": candidates,
+    "programmes": programmes,
+    "longest_choices": longest_choices,
+    "choices_of_one": choices_of_one,
+    "empty_lines": empty_lines,
+}
 
 
 # ---- reading
 
 
 class Reader:
-    def __init__(self, path, texts):
+    cases: list[Case]
+    case: Optional[Case]
+    text: Optional[list[bytes]]
+
+    def __init__(self, path: str, texts: dict[str, list[bytes]]) -> None:
         self.path, self.texts = path, texts
         self.cases, self.case, self.text, self.comment = [], None, None, ""
 
-    def line(self, number, line):
+    def line(self, number: int, line: str) -> None:
         mark, _, rest = line.partition(" ")
         if not line:
             self.end()
@@ -128,7 +148,7 @@ class Reader:
         else:
             raise Wrong(f"{self.path}:{number}: no line of a case begins so")
 
-    def of_call(self, call, number, mark, rest):
+    def of_call(self, call: Call, number: int, mark: str, rest: str) -> bool:
         if mark == ">=":
             call.row = len(call.source)
         elif mark.startswith(">"):
@@ -141,12 +161,13 @@ class Reader:
             given, arrow, line = rest.rpartition("-> ")
             if not arrow:
                 return False
+            assert self.case
             self.case.rows.append((number, given.removesuffix(" "), line))
         else:
             return False
         return True
 
-    def given(self, pieces, mark, rest):
+    def given(self, pieces: list[bytes], mark: str, rest: str) -> None:
         if mark == ">":
             pieces.append(unescaped(rest) + b"\n")
         elif mark == ">-":
@@ -159,7 +180,7 @@ class Reader:
         else:
             raise Wrong(f"{self.path}: nothing is called {rest}")
 
-    def end(self):
+    def end(self) -> None:
         case, self.case, self.text, self.comment = self.case, None, None, "" if self.case else self.comment
         if case and case.rows:
             self.cases += [case.of_row(*it) for it in case.rows]
@@ -167,9 +188,10 @@ class Reader:
             self.cases.append(case)
 
 
-def read(folder):
+def read(folder: str) -> tuple[list[Case], dict[str, bytes]]:
     """The cases of a folder's files, in their order, and the texts of texts.txt, which are known in all of them."""
-    found, texts = [], {}
+    found: list[Case] = []
+    texts: dict[str, list[bytes]] = {}
     for name in sorted(os.listdir(folder), key=lambda it: (it != "texts.txt", it)):
         if name.endswith(".txt"):
             reader = Reader(f"{folder}/{name}", texts if name == "texts.txt" else dict(texts))
@@ -184,7 +206,7 @@ def read(folder):
 # ---- running
 
 
-def called(program, words, given, room):
+def called(program: str, words: list[str], given: bytes, room: str) -> tuple[bytes, Optional[int]]:
     """What the program writes, and its status, or None where it does not end."""
     try:
         ran = subprocess.run([program, *words], input=given, stdout=subprocess.PIPE, stderr=subprocess.DEVNULL, cwd=room, timeout=SECONDS)
@@ -193,7 +215,7 @@ def called(program, words, given, room):
     return ran.stdout, ran.returncode
 
 
-def changed(store, statements):
+def changed(store: str, statements: str) -> None:
     connection = sqlite3.connect(store)
     try:
         connection.executescript(statements)
@@ -202,13 +224,13 @@ def changed(store, statements):
         connection.close()
 
 
-def first_difference(wrote, wanted):
+def first_difference(wrote: bytes, wanted: bytes) -> str:
     pairs = zip(wrote.split(b"\n") + [b""], wanted.split(b"\n") + [b""])
     at, (one, other) = next(((at, it) for at, it in enumerate(pairs, 1) if it[0] != it[1]), (0, (b"", b"")))
     return f"line {at} is {one.decode(errors='replace')!r:.120}, and not {other.decode(errors='replace')!r:.120}"
 
 
-def fault_of_call(program, call, room):
+def fault_of_call(program: str, call: Call, room: str) -> Optional[str]:
     given = b"".join(call.source)
     for words in call.piped[:-1]:
         given, status = called(program, words, given, room)
@@ -221,7 +243,7 @@ def fault_of_call(program, call, room):
     return None if status == call.status else f"{' '.join(call.words)}: ended with status {status}, and not {call.status}"
 
 
-def fault_of(program, case):
+def fault_of(program: str, case: Case) -> Optional[str]:
     """Why the program does not answer the case as it is written, or None."""
     if not READS_STORES and any(isinstance(it, str) for it in case.steps):
         return None

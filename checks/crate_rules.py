@@ -46,7 +46,8 @@ def code_of(crate: str) -> str:
 
 def reached(crate: str, deps: Deps) -> set[str]:
     """Returns the crates that a crate reaches by the lines of crates.txt."""
-    found, left = set(), [crate]
+    found: set[str] = set()
+    left = [crate]
     while left:
         new = set(deps.get(left.pop(), ())) - found
         found |= new

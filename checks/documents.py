@@ -6,7 +6,7 @@ import functools
 import os
 import re
 import subprocess
-from typing import List
+from typing import Iterable, Optional
 
 MOST_ANSWERS = 14
 SPAN = re.compile(r"`([^`\n]+)`")
@@ -20,13 +20,13 @@ LOOKS_LIKE_A_NAME = re.compile(r"[A-Z][a-z0-9]+[A-Z]\w*|\w+(?:::\w+)+|[a-z][a-z0
 FOREIGN = {"BufWriter", "HashMap"}
 
 
-def text_of(path):
+def text_of(path: str) -> str:
     with open(path, encoding="utf-8") as it:
         return it.read()
 
 
-def files_below(*folders):
-    found = []
+def files_below(*folders: str) -> list[str]:
+    found: list[str] = []
     for folder in folders:
         for at, _, names in os.walk(folder):
             found += [f"{at}/{name}" for name in names]
@@ -34,7 +34,7 @@ def files_below(*folders):
 
 
 @functools.lru_cache(maxsize=None)
-def crates():
+def crates() -> dict[str, list[str]]:
     """The crates of crates.txt, each with the crates that its line names."""
     found = {}
     for line in text_of("crates.txt").splitlines():
@@ -45,14 +45,14 @@ def crates():
 
 
 @functools.lru_cache(maxsize=None)
-def markdown():
+def markdown() -> list[str]:
     """The documents of the repository, also those that are new and not committed yet."""
     listed = subprocess.run(["git", "ls-files", "-z", "--cached", "--others", "--exclude-standard", "*.md"], stdout=subprocess.PIPE, stderr=subprocess.DEVNULL, text=True)
     found = listed.stdout.split("\0") if listed.returncode == 0 else [it.removeprefix("./") for it in files_below(".") if it.endswith(".md")]
     return sorted({it for it in found if os.path.isfile(it)})
 
 
-def prose(path):
+def prose(path: str) -> list[str]:
     """The document without its indented and fenced blocks."""
     kept, fenced = [], False
     for line in text_of(path).splitlines():
@@ -66,9 +66,10 @@ def prose(path):
 
 
 @functools.lru_cache(maxsize=None)
-def names_in(crate):
+def names_in(crate: str) -> set[str]:
     """What a crate's src/ and specs/ define: types, functions, variants, fields, modules, labels of clauses, definitions, fields of records."""
-    found, aliases = set(), []
+    found: set[str] = set()
+    aliases: list[tuple[str, str]] = []
     for path in files_below(f"crates/{crate}/src"):
         text, module = text_of(path), os.path.basename(path).partition(".")[0]
         found |= {module}
@@ -84,14 +85,15 @@ def names_in(crate):
 
 
 @functools.lru_cache(maxsize=None)
-def clauses_of(crate):
+def clauses_of(crate: str) -> set[str]:
     """The labels of the clauses of a crate's functions."""
     return {label for path in files_below(f"crates/{crate}/src") for label in re.findall(r"\b(?:ensures|requires)\*? (\w+) \{", text_of(path))}
 
 
-def names_of_definitions(text):
+def names_of_definitions(text: str) -> set[str]:
     """The definitions of a file of specs/, and the fields of its records, each also after the name of its record."""
-    found, record = set(), None
+    found: set[str] = set()
+    record: Optional[str] = None
     for line in text.splitlines():
         name = re.match(r"(?:(?:pub|abbrev|unfoldable|opaque|data|record)\s+)*([^\s:(){},]+)", line)
         field = re.match(r"\s+(?:abbrev )?pub (?:record |data )?([^\s:(){},]+)", line)
@@ -103,33 +105,33 @@ def names_of_definitions(text):
     return found
 
 
-def types_in(text):
+def types_in(text: str) -> set[str]:
     return set(re.findall(r"\b(?:struct|enum|trait)\s+(\w+)", text)) | set(re.findall(r"^impl(?:<[^>{]*>)?[^{]*?\b(\w+)(?:<[^{]*>)?\s*\{", text, re.M))
 
 
-def edits_in(folder):
+def edits_in(folder: str) -> list[str]:
     return sorted(os.listdir(folder)) if os.path.isdir(folder) else []
 
 
 @functools.lru_cache(maxsize=None)
-def edits_of(crate):
+def edits_of(crate: str) -> list[str]:
     """The edits that each gate tries, and the wrong bodies that checks/wrong-bodies tries."""
     return edits_in(f"crates/{crate}/must-fail") + edits_in(f"crates/{crate}/wrong-bodies")
 
 
 @functools.lru_cache(maxsize=None)
-def proofs_of(crate):
+def proofs_of(crate: str) -> set[str]:
     """The modules of a crate's proofs/, by their paths below it."""
     folder = f"crates/{crate}/proofs"
     return {os.path.splitext(it.removeprefix(f"{folder}/"))[0] for it in files_below(folder) if it.endswith(".antt")}
 
 
-def is_file(name, within):
+def is_file(name: str, within: Iterable[str]) -> bool:
     """Whether it is a path of the repository, or a file of one of the crates by its last part."""
     return os.path.exists(name) or any(os.path.exists(f"crates/{it}/{part}{name}") for it in within for part in ("", "specs/", "src/", "proofs/"))
 
 
-def is_there(name, within, edits_too=True):
+def is_there(name: str, within: list[str], edits_too: bool = True) -> bool:
     """Whether some of these crates has what is named."""
     if name in crates() or name in {dep for deps in crates().values() for dep in deps}:
         return True
@@ -144,25 +146,25 @@ def is_there(name, within, edits_too=True):
 
 
 @functools.lru_cache(maxsize=None)
-def spoken():
+def spoken() -> set[str]:
     """What the forms and the picture of the repository spell, which is no name of the code."""
     return set(SPAN.findall(text_of("docs/FORMATS.md"))) | {"-", "crates.txt", "rt ci", "rt check", "rt try", "rt version", "out/", "proofs/", "src/", "specs/", "fault: usage", "main"}
 
 
-def unknown(path, number, line, within):
+def unknown(path: str, number: int, line: str, within: list[str]) -> list[str]:
     """The names between backticks of a line that none of these crates has."""
     missing = [it for it in SPAN.findall(line) if it not in spoken() and not is_there(it, within)]
     return [f"{path}:{number}: nothing is called {it}" + (f" in {', '.join(within)}" if len(within) < len(crates()) else "") for it in missing]
 
 
-def names_of(path):
+def names_of(path: str) -> list[str]:
     return [it for number, line in enumerate(prose(path), 1) for it in unknown(path, number, line, list(crates()))]
 
 
 @functools.lru_cache(maxsize=None)
-def words_of_deploy():
+def words_of_deploy() -> set[str]:
     """The words of the files by which the program is put into use: settings of other programs."""
-    found = set()
+    found: set[str] = set()
     for path in files_below("deploy"):
         if not path.endswith(".md"):
             with open(path, encoding="utf-8", errors="replace") as it:
@@ -170,7 +172,7 @@ def words_of_deploy():
     return found
 
 
-def names_like_code(path):
+def names_like_code(path: str) -> list[str]:
     """The spans of any document that look like names of the code, and are none. Where a crate is named with it, "`name` of `crate`", that crate has to have it."""
     faults = []
     for number, line in enumerate(prose(path), 1):
@@ -183,9 +185,9 @@ def names_like_code(path):
     return faults
 
 
-def no_clauses(path):
+def no_clauses(path: str) -> list[str]:
     """What a document calls a clause, and is the label of no clause of the crates that its line names: a definition, say, or a field of a record."""
-    faults = []
+    faults: list[str] = []
     for number, line in enumerate(prose(path), 1):
         within = [it for it in SPAN.findall(line) if it in crates()] or list(crates())
         for listed in CLAUSES.findall(line):
@@ -196,9 +198,12 @@ def no_clauses(path):
 # ---- the promises
 
 
-def sections(path):
+Section = tuple[int, str, dict[int, str]]
+
+
+def sections(path: str) -> list[Section]:
     """The sections of a document, each with the number of its line, its title, and the lines below it by their numbers."""
-    found = []
+    found: list[Section] = []
     for number, line in enumerate(prose(path), 1):
         if line.startswith("#"):
             found.append((number, line, {}))
@@ -207,9 +212,9 @@ def sections(path):
     return found
 
 
-def promises_of(path):
+def promises_of(path: str) -> list[str]:
     """Each promise says who says it and which edits are refused; both are looked for in the crates that these two lines name."""
-    faults = []
+    faults: list[str] = []
     for number, title, lines in sections(path):
         said, refused = ([at for at, line in lines.items() if line.startswith(start)] for start in ("Said by: ", "Refused edits: "))
         if not title.startswith("### "):
@@ -231,7 +236,7 @@ def promises_of(path):
     return faults
 
 
-def promises():
+def promises() -> list[str]:
     """The page of promises has at most so many rows, each with a link; and no two promises have one name."""
     rows = [(number, line) for number, line in enumerate(prose("docs/PROMISES.md"), 1) if line.count(" | ") == 2][1:]
     faults = [f"docs/PROMISES.md:{number}: no link says where it is said" for number, line in rows if "](" not in line.rpartition(" | ")[2]]
@@ -246,9 +251,10 @@ def promises():
 
 
 @functools.lru_cache(maxsize=None)
-def anchors_in(path):
+def anchors_in(path: str) -> set[str]:
     """What a link to a part of a document may end with: its titles in small letters, with hyphens for blanks, and with a number where a title comes again."""
-    found, times = set(), {}
+    found: set[str] = set()
+    times: dict[str, int] = {}
     for _, title, _ in sections(path):
         text = re.sub(r"\[([^]]*)\]\([^)]*\)", r"\1", title)
         name = re.sub(r"[^\w -]", "", text.lstrip("#").strip().lower()).replace(" ", "-")
@@ -257,16 +263,16 @@ def anchors_in(path):
     return found
 
 
-def links_in(line):
+def links_in(line: str) -> list[str]:
     """The targets of the links and pictures of a line that are no addresses of the net."""
     line = SPAN.sub("``", line)
     found = re.findall(r"\]\(\s*<?([^)\s>]+)>?(?:\s+\"[^\"]*\")?\s*\)", line) + re.findall(r"^ {0,3}\[[^]]+\]:\s*(\S+)", line) + re.findall(r"\b(?:href|src)=\"([^\"]+)\"", line)
     return [it for it in found if not re.match(r"[a-z][a-z0-9+.-]*:", it)]
 
 
-def paths_of(path):
+def paths_of(path: str) -> list[str]:
     """The files that a document names between backticks or links to, and that are not there, and the parts of documents."""
-    faults = []
+    faults: list[str] = []
     for number, line in enumerate(prose(path), 1):
         named = [it.split()[0] for it in SPAN.findall(line) if re.match(r"(crates|docs|examples|checks|cases|bench|\.ci)/", it)]
         for link in links_in(line):
@@ -278,7 +284,7 @@ def paths_of(path):
     return faults
 
 
-def layers():
+def layers() -> list[str]:
     """docs/MAP.md has each crate, in the order of crates.txt."""
     drawn = re.findall(r"^ {4}(\w+) {2,}\w", text_of("docs/MAP.md"), re.MULTILINE)
     faults = [f"docs/MAP.md: there is no crate {it}" for it in drawn if it not in crates()]
@@ -295,9 +301,10 @@ def layers():
 GAIN_OF_CHAIN = {4: 2.3, 2: 1.6}
 
 
-def likely_minutes(program, processors):
+def likely_minutes(program: str, processors: int) -> float:
     """How long the first proof of a program takes by what the launcher tells: by its share of the processors, or by its longest chain of crates."""
-    seconds, chain, needed = seconds_of_proofs(), {}, {program}
+    seconds, needed = seconds_of_proofs(), {program}
+    chain: dict[str, float] = {}
     for it in reversed([*crates()]):
         needed |= {dep for dep in crates()[it] if it in needed}
     for it in (it for it in crates() if it in needed):
@@ -305,7 +312,7 @@ def likely_minutes(program, processors):
     return 1.1 * max(sum(seconds[it] for it in chain) / processors, chain[program] / GAIN_OF_CHAIN[processors]) / 60
 
 
-def minutes():
+def minutes() -> list[str]:
     """The README says in how many minutes each program is proved, on four and on two processors, no more than a third away from checks/proof-seconds.txt."""
     rows = re.findall(r"^\| .* \| (\d+) once, then none \| (\d+) \| yes \|$", text_of("README.md"), re.M)
     wanted = ("step_program", "season_program", "allocation_cli")
@@ -316,7 +323,7 @@ def minutes():
             for program, processors, told, likely in found if abs(told - likely) > likely / 3]
 
 
-def above(name):
+def above(name: str) -> set[str]:
     """The crates that depend on this one, at once or through others."""
     found = {name}
     for it, deps in crates().items():
@@ -324,35 +331,36 @@ def above(name):
     return found - {name}
 
 
-def seconds_of_proofs():
+def seconds_of_proofs() -> dict[str, float]:
     """How long the proof of each crate takes. One that was not measured yet takes as long as the others on average."""
     measured = {name: int(seconds) for name, seconds in map(str.split, text_of("checks/proof-seconds.txt").splitlines())}
     return {it: measured.get(it, sum(measured.values()) / len(measured)) for it in crates()}
 
 
-def minutes_of_change(name, processors):
+def minutes_of_change(name: str, processors: int) -> float:
     """How long a crate takes with all above it: no less than their share of the processors, nor than their longest chain."""
-    seconds, chain, proved_again = seconds_of_proofs(), {}, above(name) | {name}
+    seconds, proved_again = seconds_of_proofs(), above(name) | {name}
+    chain: dict[str, float] = {}
     for it in (it for it in crates() if it in proved_again):
         chain[it] = seconds[it] + max([chain[dep] for dep in crates()[it] if dep in chain], default=0)
     return max(sum(seconds[it] for it in chain) / processors, max(chain.values())) / 60
 
 
-def longest_chain():
+def longest_chain() -> list[str]:
     """DECISIONS says how many crates the longest chain has."""
-    length = {}
+    length: dict[str, int] = {}
     for it, deps in crates().items():
         length[it] = 1 + max([length[dep] for dep in deps if dep in length], default=0)
     said = re.search(r"The longest chain of crates has (\d+)", text_of("docs/DECISIONS.md"))
     return [] if said and int(said[1]) == max(length.values()) else [f"docs/DECISIONS.md: the longest chain of crates has {max(length.values())}"]
 
 
-def costs():
+def costs() -> list[str]:
     """CONTRIBUTING says how many crates a change proves again and in how many minutes, no more than a third away from what checks/proof-seconds.txt gives."""
     rows = re.findall(r"^\| [^|]+ \| `(\w+)` \| (\d+) \| (\d+) \| (\d+) \|$", text_of("CONTRIBUTING.md"), re.M)
     if not rows:
         return ["CONTRIBUTING.md: no row says what a change costs"]
-    faults = []
+    faults: list[str] = []
     for name, *figures in rows:
         likely = (len(above(name)) + 1, minutes_of_change(name, 4), minutes_of_change(name, 2)) if name in crates() else (0, 0, 0)
         faults += [f"CONTRIBUTING.md: a change of {name} has a figure {figure}, and {found:.0f} is so" for figure, found in zip(map(int, figures), likely) if abs(figure - found) > max(found / 3, 1)]
@@ -364,7 +372,7 @@ def tests_in(crate: str) -> int:
     return sum(text_of(it).count("#[test]") for it in files_below(f"crates/{crate}/src"))
 
 
-def tested() -> List[str]:
+def tested() -> list[str]:
     """Holds docs/promises/tested.md to how many cases, examples, damaged scripts and tests there are; "some N cases" may be a tenth away."""
     # these read cases/ or run a plain office, which no other part of this module needs
     import cases
@@ -384,14 +392,14 @@ def tested() -> List[str]:
     some = re.search(r"some (\d+) cases", text)
     if not some or abs(int(some[1]) - sum(count.values())) > sum(count.values()) / 10:
         wrong.append(f"docs/promises/tested.md: there are {sum(count.values())} cases")
-    told = collections.Counter()
+    told: collections.Counter[str] = collections.Counter()
     for crate, number in re.findall(r"^\| `(\w+)` \| (\d+) \|", text, re.M):
         told[crate] += int(number)
     trials = [it for it in crates() if it.endswith("_trials")]
     return wrong + [f"docs/promises/tested.md: {it} has {tests_in(it)} tests, and not {told[it]}" for it in trials if tests_in(it) != told[it]]
 
 
-def faults():
+def faults() -> list[str]:
     """What the documents name or link to and is not there, and figures that are not so."""
     found = [it for path in OF_NAMES for it in names_of(path)] + promises()
     found += [it for path in markdown() if path not in OF_NAMES and not path.startswith("docs/promises/") for it in names_like_code(path)]

@@ -13,6 +13,7 @@ A span of code counts as one word, and so does a number. Cells of tables have to
 import os
 import re
 import sys
+from typing import Iterator, Optional
 
 import documents
 from documents import text_of
@@ -36,25 +37,26 @@ ITEM = re.compile(r"( *)(?:[-*+]|\d{1,9}[.)]) +(?=\S)")
 SENTENCE_ENDS = re.compile(r"[.!?][\"')\]*_]*\s+(?=[\"'(\[*_]*[A-Z0-9])")
 
 
-def of_plain_words(path):
+def of_plain_words(path: str) -> bool:
     return path in ("README.md", "SECURITY.md", "CONTRIBUTING.md", "cases/README.md") or path.startswith("docs/")
 
 
 # ---- lines by their kind
 
 
-def kinds(path):
+def kinds(path: str) -> Iterator[tuple[int, str, str]]:
     """Each line of a document with its number and its kind: prose, item (which begins one of a list), heading, table, code or empty."""
-    fence, indent, last = None, 0, "empty"
+    fence: Optional[str] = None
+    indent, last = 0, "empty"
     for number, line in enumerate(text_of(path).splitlines(), 1):
         text, mark = line.strip(), re.match(r" {0,3}(```+|~~~+)", line)
         depth = len(line) - len(line.lstrip(" "))
         item = ITEM.match(line)
-        if fence or mark:
+        if mark and not fence:
+            kind, fence = "code", mark[1]
+        elif fence:
             kind = "code"
-            if not fence:
-                fence = mark[1]
-            elif text.startswith(fence) and text.strip(fence[0]) == "":
+            if text.startswith(fence) and text.strip(fence[0]) == "":
                 fence = None
         elif not text:
             kind = "empty"
@@ -77,7 +79,7 @@ def kinds(path):
         yield number, kind, line
 
 
-def without_code(line):
+def without_code(line: str) -> str:
     """The line with a word in place of each span of code, and without the targets of links."""
     line = re.sub(r"(`+)(?!`).+?(?<!`)\1(?!`)", "CODE", line)
     return re.sub(r"\]\([^)]*\)", "]", line)
@@ -86,16 +88,16 @@ def without_code(line):
 # ---- lines and words
 
 
-def long_lines(path):
+def long_lines(path: str) -> list[str]:
     return [f"{path}:{number}: a line of prose has {len(line)} characters, and {WIDEST_LINE} are the most"
             for number, kind, line in kinds(path) if kind in ("prose", "item") and len(line) > WIDEST_LINE]
 
 
-def hard_words(path):
+def hard_words(path: str) -> list[str]:
     return [f"{path}:{number}: '{it[0]}' has a plainer word" for number, kind, line in kinds(path) if kind != "code" for it in HARD_WORDS.finditer(without_code(line))]
 
 
-def unclear_letters(path):
+def unclear_letters(path: str) -> list[str]:
     text = text_of(path)
     return [f"{path}: it shows the step D, and does not say in bold that it is de-reserved"] if STEP_D.search(text) and not SAYS_STEP_D.search(text) else []
 
@@ -103,9 +105,10 @@ def unclear_letters(path):
 # ---- sentences
 
 
-def pieces(path):
+def pieces(path: str) -> Iterator[tuple[int, str, bool]]:
     """The paragraphs, items and cells of tables of a document, each with the number of its first line, its text, and whether it is a cell."""
-    begun, text = 0, []
+    begun = 0
+    text: list[str] = []
     for number, kind, line in kinds(path):
         if kind != "prose" and text:
             yield begun, " ".join(text), False
@@ -119,11 +122,11 @@ def pieces(path):
         yield begun, " ".join(text), False
 
 
-def words_of(sentence):
+def words_of(sentence: str) -> list[str]:
     return [it for it in sentence.split() if re.search(r"\w", it)]
 
 
-def sentences(path):
+def sentences(path: str) -> Iterator[tuple[int, list[str], bool]]:
     """The sentences of a document: the number of the line where the piece of text begins, the words, and whether it is of a cell."""
     for number, text, is_cell in pieces(path):
         for sentence in SENTENCE_ENDS.sub(lambda it: it[0].rstrip() + "\n", without_code(text)).split("\n"):
@@ -132,20 +135,20 @@ def sentences(path):
                 yield number, words, is_cell
 
 
-def average(path):
+def average(path: str) -> float:
     """The words of a sentence of a document on average, without those of tables."""
     found = [len(words) for _, words, is_cell in sentences(path) if not is_cell]
     return sum(found) / max(len(found), 1)
 
 
-def long_sentences(path):
+def long_sentences(path: str) -> list[str]:
     return [f"{path}:{number}: a sentence has {len(words)} words, and {MOST_WORDS} are the most: {' '.join(words[:8])} .."
             for number, words, _ in sentences(path) if len(words) > MOST_WORDS]
 
 
-def choppy(path):
+def choppy(path: str) -> list[str]:
     """The paragraphs of a document with several very short sentences in a row."""
-    of_paragraph = {}
+    of_paragraph: dict[int, list[list[str]]] = {}
     for number, words, is_cell in sentences(path):
         if not is_cell:
             of_paragraph.setdefault(number, []).append(words)
@@ -154,7 +157,7 @@ def choppy(path):
             for at in range(len(lines) - IN_A_ROW + 1) if all(len(it) <= VERY_SHORT for it in lines[at : at + IN_A_ROW])]
 
 
-def out_of_rhythm(path):
+def out_of_rhythm(path: str) -> list[str]:
     mean = average(path)
     if LEAST_ON_AVERAGE <= mean <= MOST_ON_AVERAGE:
         return []
@@ -162,12 +165,12 @@ def out_of_rhythm(path):
     return [f"{path}: a sentence has {mean:.1f} words on average, and {limit}"]
 
 
-def averages():
+def averages() -> str:
     """A line with the average of each document that is counted."""
     return "words of a sentence on average: " + ", ".join(f"{it} {average(it):.1f}" for it in COUNTED if os.path.exists(it))
 
 
-def faults():
+def faults() -> list[str]:
     found = [it for path in documents.markdown() for it in long_lines(path)]
     found += [it for path in documents.markdown() if not path.endswith(".hi.md") for it in [*long_sentences(path), *choppy(path)]]
     found += [it for path in (*COUNTED, *HELD) if os.path.exists(path) for it in out_of_rhythm(path)]
@@ -175,7 +178,7 @@ def faults():
     return found + [it for path in documents.markdown() if of_plain_words(path) for it in hard_words(path)]
 
 
-def main(words):
+def main(words: list[str]) -> int:
     if len(words) > 1:
         sys.exit(__doc__)
     os.chdir(words[0] if words else os.path.dirname(os.path.dirname(os.path.realpath(__file__))))

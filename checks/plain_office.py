@@ -6,6 +6,7 @@ every placement. So it serves for a handful of candidates. It reads the forms of
 import functools
 import itertools
 import math
+from typing import Callable, Iterator, Optional, Sequence, Union, cast
 
 STEPS = ("OPEN", "EWS", "OBC", "SC", "ST", "D")
 TRAITS = "WDXSFL"
@@ -16,29 +17,37 @@ MOST_SEATS = 4000
 MOST_SEATS_IN_ALL = 1_000_000
 OTHER_WORDS = {"GEN-EWS": "EWS", "OBC-NCL": "OBC"}
 
+Protections = tuple[int, ...]
+# the code of a programme, and a step
+Seat = tuple[str, str]
+# a window, a candidate, a turn and a choice
+Answer = tuple[int, int, int, str]
+# a window, the code of a programme, a step and its seats
+Raise = tuple[int, str, str, int]
+
 # ---- the choice of a step, from its definition
 
 
 @functools.lru_cache(maxsize=None)
-def greatest(people, left):
+def greatest(people: tuple[str, ...], left: Protections) -> int:
     """How many of the people, each given by traits, can stand on what is left of the protected positions: the first takes none, or on a trait held."""
     if not people:
         return 0
     return max([greatest(people[1:], left), *(1 + greatest(people[1:], rest) for _, rest in stands(people[0], left))])
 
 
-def stands(person, left):
+def stands(person: str, left: Protections) -> list[tuple[int, Protections]]:
     """The traits on which a person may stand, each with what is left for the others."""
     return [(t, (*left[:t], left[t] - 1, *left[t + 1 :])) for t, letter in enumerate(TRAITS) if letter in person and left[t]]
 
 
 @functools.lru_cache(maxsize=None)
-def chosen(people, seats, protections):
+def chosen(people: tuple[str, ...], seats: int, protections: Protections) -> tuple[int, ...]:
     """Whom a step admits of its people, by their numbers in merit order: the one set within the seats that is as good as every other."""
     sets = [it for size in range(min(seats, len(people)) + 1) for it in itertools.combinations(range(len(people)), size)]
     honours = {it: greatest(tuple(people[at] for at in it), protections) for it in sets}
 
-    def is_as_good(one, other):
+    def is_as_good(one: tuple[int, ...], other: tuple[int, ...]) -> bool:
         no_worse = len(one) >= len(other) and all(a <= b for a, b in zip(one, other))
         return honours[one] > honours[other] or (honours[one] == honours[other] and no_worse)
 
@@ -47,7 +56,7 @@ def chosen(people, seats, protections):
 
 
 @functools.lru_cache(maxsize=None)
-def certificate(people, left):
+def certificate(people: tuple[str, ...], left: Protections) -> tuple[str, ...]:
     """The letter of the position that each of the people fills, or a dash: the first of the longest placements."""
     if not people:
         return ()
@@ -57,13 +66,13 @@ def certificate(people, left):
     return ("-", *certificate(people[1:], left))
 
 
-def step_lines(step, seats, candidates, admitted, letters):
+def step_lines(step: str, seats: int, candidates: int, admitted: Sequence[Union[int, str]], letters: tuple[str, ...]) -> str:
     """The lines of a step: its numbers, how much is honoured, and each of the admitted with the letter of the position."""
     text = f"step {step}seats {seats} candidates {candidates} admitted {len(admitted)}\nhonoured {len(letters) - letters.count('-')}\n"
     return text + "".join(f"{cand} {letter}\n" for cand, letter in zip(admitted, letters))
 
 
-def sheet_text(sheet):
+def sheet_text(sheet: str) -> str:
     """What the step of a sheet without a fault admits."""
     rows = [line.rstrip(",\r").split(",") for line in sheet.removeprefix("\ufeff").split("\n")[1:]]
     seats = next(int(row[1]) for row in rows if row[0] == "seats")
@@ -79,23 +88,28 @@ def sheet_text(sheet):
 
 
 class Person:
-    def __init__(self, fields):
+    def __init__(self, fields: list[str]) -> None:
         self.id, self.category, self.traits, self.token = int(fields[0]), OTHER_WORDS.get(fields[1], fields[1]), fields[2].strip("-"), fields[3]
         self.places = [*fields[4:], "", "", "", ""]
 
-    def place(self, merit):
+    def place(self, merit: int) -> Optional[int]:
         """The number of the place in a merit list, None for none."""
         text = self.places[merit - 1]
         return int(text.rstrip("R")) if text else None
 
-    def is_common(self, merit):
+    def rank(self, merit: int) -> int:
+        """The number of the place in a merit list that has the person: who applies to a programme has a place in its list."""
+        return cast(int, self.place(merit))
+
+    def is_common(self, merit: int) -> bool:
         return self.places[merit - 1].isdigit()
 
 
 class Season:
-    def __init__(self, text):
+    def __init__(self, text: str) -> None:
         first, *lines = text.split("\n")
-        sections, name = {}, None
+        sections: dict[str, list[list[str]]] = {}
+        name = ""
         for line in filter(None, lines):
             if line.startswith("["):
                 name = line.strip("[]")
@@ -104,7 +118,9 @@ class Season:
         rows = dict(sections["season"][1:])
         self.rounds, self.clerk = int(rows["rounds"]), rows["clerk"]
         self.people = sorted((Person(row) for row in sections["register"][2:]), key=lambda it: it.id)
-        self.programmes, self.seats, self.protections = {}, {}, {}
+        self.programmes: dict[str, tuple[str, int]] = {}
+        self.seats: dict[Seat, int] = {}
+        self.protections: dict[Seat, Protections] = {}
         for code, institute, merit, step, seats, *protections in sections["matrix"][2:]:
             step = OTHER_WORDS.get(step, step)
             self.programmes.setdefault(code, (institute, int(merit)))
@@ -112,27 +128,29 @@ class Season:
             self.protections[code, step] = tuple(int(it or 0) for it in [*protections, *[""] * 6][:6])
         self.choices = {int(row[0]): row[1:] for row in sections["choices"][2:]}
 
-    def person(self, cand):
+    def person(self, cand: int) -> Optional[Person]:
         return next((it for it in self.people if it.id == cand), None)
 
-    def merit(self, code):
+    def merit(self, code: str) -> int:
         return self.programmes[code][1]
 
 
 class StepList:
     """A step of a programme: its seats, how many stood for them, whom it admits and the letters of their positions."""
 
-    def __init__(self, step, seats, protections, people):
+    def __init__(self, step: str, seats: int, protections: Protections, people: list[Person]) -> None:
         traits = tuple(it.traits for it in people)
         self.step, self.seats, self.protections, self.people, self.candidates = step, seats, protections, people, len(people)
         self.admitted = [people[at] for at in chosen(traits, seats, protections)]
         self.letters = certificate(tuple(it.traits for it in self.admitted), protections)
 
 
-def lists_of(season, seats, code, applicants):
+def lists_of(season: Season, seats: dict[Seat, int], code: str, applicants: list[Person]) -> list[StepList]:
     """The six lists of a programme from its applicants."""
-    merit, lists, taken, empty = season.merit(code), [], set(), 0
-    people = sorted(applicants, key=lambda it: it.place(merit))
+    merit, empty = season.merit(code), 0
+    lists: list[StepList] = []
+    taken: set[int] = set()
+    people = sorted(applicants, key=lambda it: it.rank(merit))
     for step in STEPS:
         stand = [it for it in people if it.id not in taken and (it.is_common(merit) if step in ("OPEN", "D") else it.category == step)]
         count = empty if step == "D" else seats.get((code, step), 0)
@@ -144,17 +162,17 @@ def lists_of(season, seats, code, applicants):
     return lists
 
 
-def cutoff_of(found, merit, traits):
+def cutoff_of(found: StepList, merit: int, traits: str) -> float:
     """The last place with which a step admits one candidate more of these traits: 0 for none, infinity for every place. The candidate is tried before each who stood for the step, and behind all."""
     people = tuple(it.traits for it in found.people)
     tried = range(len(people), -1, -1)
     last = next((at for at in tried if at in chosen((*people[:at], traits, *people[at:]), found.seats, found.protections)), None)
     if last is None:
         return 0
-    return math.inf if last == len(people) else found.people[last].place(merit)
+    return math.inf if last == len(people) else found.people[last].rank(merit)
 
 
-def cutoffs_of(found, merit):
+def cutoffs_of(found: StepList, merit: int) -> list[tuple[str, float]]:
     """The lines of a step: each set of protected traits whose place is worse than that of each smaller set, with that place."""
     letters = [letter for letter, count in zip(TRAITS, found.protections) if count]
     sets = sorted(("".join(it) for size in range(len(letters) + 1) for it in itertools.combinations(letters, size)), key=lambda it: sum(1 << TRAITS.index(letter) for letter in it))
@@ -162,13 +180,13 @@ def cutoffs_of(found, merit):
     return [(it, last[it]) for it in sets if all(last[it] > last[other] for other in sets if set(other) < set(it)) and last[it]]
 
 
-def list_text(number, code, lists):
+def list_text(number: int, code: str, lists: list[StepList]) -> str:
     """The text of a programme's lists in a round."""
     steps = (step_lines(f"{it.step} ", it.seats, it.candidates, [person.id for person in it.admitted], it.letters) for it in lists)
     return f"list {number} {code}\n{''.join(steps)}end list\n"
 
 
-def cutoffs_text(number, code, lists, merit):
+def cutoffs_text(number: int, code: str, lists: list[StepList], merit: int) -> str:
     """The text of a programme's cutoffs in a round."""
     lines = ((found.step, *line) for found in lists for line in cutoffs_of(found, merit))
     told = "".join(f"{step} {traits or '-'} {'any' if last == math.inf else last}\n" for step, traits, last in lines)
@@ -178,7 +196,7 @@ def cutoffs_text(number, code, lists, merit):
 class Round:
     """The round on what everybody seeks: the seat of each candidate, and the lists of each programme."""
 
-    def __init__(self, season, seats, sought):
+    def __init__(self, season: Season, seats: dict[Seat, int], sought: dict[int, list[str]]) -> None:
         self.sought, tried = sought, dict.fromkeys(sought, 1)
         while True:
             applied = {code: [it for it in season.people if code in sought[it.id][: tried[it.id]]] for code in season.programmes}
@@ -194,7 +212,7 @@ class Round:
 # ---- the office
 
 
-def is_wider(left, choice):
+def is_wider(left: str, choice: str) -> bool:
     """Whether an answer is wider than what the last cut left."""
     return (left, choice) in (("slide", "float"), ("freeze", "float"), ("freeze", "slide"))
 
@@ -202,34 +220,38 @@ def is_wider(left, choice):
 class Office:
     """The season, what was accepted in its order, and the rounds that were published."""
 
-    def __init__(self, season):
+    answers: list[Answer]
+    raises: list[Raise]
+    rounds: list[Round]
+
+    def __init__(self, season: Season) -> None:
         self.season, self.answers, self.raises, self.cuts, self.rounds = season, [], [], 0, []
 
     # what was accepted: answers are (window, candidate, turn, choice), raises (window, code, step, seats)
 
-    def kept(self, cand, window):
+    def kept(self, cand: int, window: int) -> list[Answer]:
         return [it for it in self.answers if it[:2] == (window, cand)]
 
-    def last_turn(self, cand, window):
+    def last_turn(self, cand: int, window: int) -> int:
         return max((turn for _, _, turn, _ in self.kept(cand, window)), default=0)
 
-    def seats(self):
+    def seats(self) -> dict[Seat, int]:
         found = dict(self.season.seats)
         found.update({(code, step): seats for _, code, step, seats in self.raises})
         return found
 
-    def seat_after(self, cand, window):
+    def seat_after(self, cand: int, window: int) -> Optional[Seat]:
         return self.rounds[window].seats.get(cand) if window < len(self.rounds) else None
 
-    def last_seat(self, cand):
+    def last_seat(self, cand: int) -> Optional[Seat]:
         return self.rounds[-1].seats.get(cand) if self.rounds else None
 
-    def answered(self, cand, window, left):
+    def answered(self, cand: int, window: int, left: str) -> str:
         """How the answers of a window leave a candidate whom the cut before it left so."""
         kept = self.kept(cand, window)
         return {"withdraw": "withdrawn"}.get(kept[-1][3], kept[-1][3]) if kept else left
 
-    def left(self, cand, window):
+    def left(self, cand: int, window: int) -> str:
         """How the cut before a window left the candidate."""
         left = "waiting"
         for earlier in range(window):
@@ -240,10 +262,10 @@ class Office:
                 left = "offered"
         return left
 
-    def standing(self, cand, window):
+    def standing(self, cand: int, window: int) -> str:
         return self.answered(cand, window, self.left(cand, window))
 
-    def sought(self, cand):
+    def sought(self, cand: int) -> list[str]:
         """What a candidate seeks next."""
         standing, held, own = self.standing(cand, self.cuts), self.last_seat(cand), self.season.choices.get(cand, [])
         up_to_held = own[: own.index(held[0]) + 1] if held else own
@@ -260,19 +282,20 @@ class Office:
 
     # ---- replies
 
-    def reply(self, row):
+    def reply(self, row: str) -> str:
         """The reply to a request as a row of the script spells it."""
         word, by, *fields = row.split(",")
-        return getattr(self, f"reply_to_{word}")(by, *(int(it) if it.isdigit() else it for it in fields))
+        reply_to: Callable[..., str] = getattr(self, f"reply_to_{word}")
+        return reply_to(by, *(int(it) if it.isdigit() else it for it in fields))
 
-    def closed(self, window):
+    def closed(self, window: int) -> Optional[str]:
         if window < self.cuts:
             return f"refused 6 Late now {self.cuts}\n"
         if window > self.cuts or window > self.season.rounds:
             return f"refused 7 Ahead now {self.cuts}\n"
         return None
 
-    def reply_to_answer(self, by, cand, window, turn, choice):
+    def reply_to_answer(self, by: str, cand: int, window: int, turn: int, choice: str) -> str:
         if not self.season.person(cand):
             return "refused 1 UnknownCandidate\n"
         if by != str(cand):
@@ -287,7 +310,7 @@ class Office:
             self.answers.append((window, cand, turn, choice))
         return f"noted {cand} window {window} turn {turn} {choice}\n"
 
-    def refused_answer(self, cand, window, turn, choice):
+    def refused_answer(self, cand: int, window: int, turn: int, choice: str) -> Optional[str]:
         last, left, standing = self.last_turn(cand, self.cuts), self.left(cand, self.cuts), self.standing(cand, self.cuts)
         if self.closed(window):
             return self.closed(window)
@@ -303,7 +326,7 @@ class Office:
             return "refused 12 TooManyTurns\n"
         return None
 
-    def reply_to_cut(self, by, window):
+    def reply_to_cut(self, by: str, window: int) -> str:
         if by != "clerk":
             return "refused 3 Denied rule 2\n"
         if window > self.cuts or window == self.cuts > self.season.rounds:
@@ -317,7 +340,7 @@ class Office:
         count = text.split("\n", 1)[0].split(" ")[-1]
         return f"published {window + 1} seated {count}\n{text}" if window < self.season.rounds else f"final admitted {count}\n{text}"
 
-    def published_text(self, number):
+    def published_text(self, number: int) -> str:
         """What was published under a number: a round, or the final admissions under one more than the number of rounds."""
         if number > self.season.rounds:
             rows = [f"admit {cand} {code} {step}\n" for cand, code, step in self.admitted()]
@@ -325,41 +348,44 @@ class Office:
         rows = [f"allot {cand} {code} {step}\n" for cand, (code, step) in sorted(self.rounds[number - 1].seats.items())]
         return f"round {number} seated {len(rows)}\n{''.join(rows)}end round\n"
 
-    def admitted(self):
+    def admitted(self) -> list[tuple[int, str, str]]:
         """Those who kept a seat at the last cut."""
         found = [(it.id, self.last_seat(it.id)) for it in self.season.people if self.standing(it.id, self.season.rounds) in STAYS]
         return [(cand, *seat) for cand, seat in found if seat]
 
-    def refused_own(self, by, cand):
+    def refused_own(self, by: str, cand: int) -> Optional[str]:
         """Why a question that only the candidate and the clerk may ask is refused, or None."""
         if not self.season.person(cand):
             return "refused 1 UnknownCandidate\n"
         return None if by in ("clerk", str(cand)) else "refused 3 Denied rule 3\n"
 
-    def reply_to_seat(self, by, cand):
-        if self.refused_own(by, cand):
-            return self.refused_own(by, cand)
+    def reply_to_seat(self, by: str, cand: int) -> str:
+        refused = self.refused_own(by, cand)
+        if refused:
+            return refused
         standing, held = self.standing(cand, self.cuts), self.last_seat(cand)
         what = " ".join(held) if held and standing in ("offered", *STAYS) else "none"
         return f"seat {cand} round {len(self.rounds)} {standing} {what}\n"
 
-    def reply_to_choices(self, by, cand):
+    def reply_to_choices(self, by: str, cand: int) -> str:
         return self.refused_own(by, cand) or " ".join(["choices", str(cand), *self.season.choices.get(cand, [])]) + "\n"
 
-    def reply_to_register(self, by, cand):
-        if self.refused_own(by, cand):
-            return self.refused_own(by, cand)
-        person = self.season.person(cand)
+    def reply_to_register(self, by: str, cand: int) -> str:
+        refused, person = self.refused_own(by, cand), self.season.person(cand)
+        if refused:
+            return refused
+        assert person
         return " ".join(["register", str(cand), person.category, person.traits or "-", *(it or "-" for it in person.places[:4])]) + "\n"
 
-    def reply_to_answers(self, by, cand):
-        if self.refused_own(by, cand):
-            return self.refused_own(by, cand)
+    def reply_to_answers(self, by: str, cand: int) -> str:
+        refused = self.refused_own(by, cand)
+        if refused:
+            return refused
         kept = sorted((window, turn, choice) for window, who, turn, choice in self.answers if who == cand)
         receipts = (f"noted {cand} window {window} turn {turn} {choice}\n" for window, turn, choice in kept)
         return f"answers {cand} noted {len(kept)}\n{''.join(receipts)}end answers\n"
 
-    def reply_to_why(self, by, cand, code):
+    def reply_to_why(self, by: str, cand: int, code: str) -> str:
         person, own = self.season.person(cand), self.season.choices.get(cand, [])
         if not person:
             return "refused 1 UnknownCandidate\n"
@@ -380,37 +406,39 @@ class Office:
             return f"why {cand} {code} notsought\n"
         return f"why {cand} {code} refused\n{''.join(self.steps_against(person, code))}end why\n"
 
-    def steps_against(self, person, code):
+    def steps_against(self, person: Person, code: str) -> Iterator[str]:
         """What stood against a person, step after step."""
         merit = self.season.merit(code)
         for found in self.rounds[-1].lists[code]:
             if person.is_common(merit) if found.step in ("OPEN", "D") else person.category == found.step:
-                worse = any(it.place(merit) > person.place(merit) for it in found.admitted)
+                worse = any(it.rank(merit) > person.rank(merit) for it in found.admitted)
                 yield f"{found.step} seats {found.seats} worse {'yes' if worse else 'no'}\n"
 
-    def refused_shown(self, number, code):
+    def refused_shown(self, number: int, code: str) -> Optional[str]:
         """Why a question about a programme in a round is refused, or None."""
         if code not in self.season.programmes:
             return "refused 2 UnknownProgramme\n"
         return None if 1 <= number <= len(self.rounds) else f"refused 14 NoSuchRound published {len(self.rounds)}\n"
 
-    def reply_to_cutoffs(self, _, number, code):
-        if self.refused_shown(number, code):
-            return self.refused_shown(number, code)
+    def reply_to_cutoffs(self, _: str, number: int, code: str) -> str:
+        refused = self.refused_shown(number, code)
+        if refused:
+            return refused
         return cutoffs_text(number, code, self.rounds[number - 1].lists[code], self.season.merit(code))
 
-    def reply_to_list(self, _, number, code):
-        if self.refused_shown(number, code):
-            return self.refused_shown(number, code)
+    def reply_to_list(self, _: str, number: int, code: str) -> str:
+        refused = self.refused_shown(number, code)
+        if refused:
+            return refused
         return list_text(number, code, self.rounds[number - 1].lists[code])
 
-    def reply_to_round(self, _, number):
+    def reply_to_round(self, _: str, number: int) -> str:
         return self.published_text(number) if 1 <= number <= self.cuts else f"refused 14 NoSuchRound published {len(self.rounds)}\n"
 
-    def reply_to_state(self, _):
+    def reply_to_state(self, _: str) -> str:
         return f"state window {self.cuts} rounds {self.season.rounds} published {len(self.rounds)}\n"
 
-    def reply_to_raise(self, by, window, code, step, seats):
+    def reply_to_raise(self, by: str, window: int, code: str, step: str, seats: int) -> str:
         if code not in self.season.programmes:
             return "refused 2 UnknownProgramme\n"
         if by != "clerk":
@@ -423,7 +451,7 @@ class Office:
             self.raises.append(row)
         return f"raised {code} {row[2]} window {window} seats {seats}\n"
 
-    def refused_raise(self, window, code, step, seats):
+    def refused_raise(self, window: int, code: str, step: str, seats: int) -> Optional[str]:
         now, total = self.seats().get((code, step), 0), sum(self.seats().values())
         if self.closed(window):
             return self.closed(window)
@@ -437,7 +465,7 @@ class Office:
             return f"refused 18 SeatLimit total {total}\n"
         return None
 
-    def rows(self):
+    def rows(self) -> dict[str, list[tuple[int, ...]]]:
         """The rows of the tables of a store, as docs/FORMATS.md has them."""
         number = {code: at for at, code in enumerate(self.season.programmes)}
         allots = [(at, cand, *seat) for at, it in enumerate(self.rounds, 1) for cand, seat in sorted(it.seats.items())]

@@ -1,6 +1,7 @@
 """A plain reader of scripts without quotes, and a worked script with one of its letters damaged: what the program makes of it is held against what the
 plain reader and the plain office make of it."""
 import re
+from typing import Callable, Iterator, Optional
 
 from plain_office import CHOICES, MOST_SEATS, OTHER_WORDS, STEPS, Office, Season
 
@@ -27,7 +28,7 @@ OTHERS = ("", ",", "\n", "0", "1", "x", "-", "clerk", "65536")
 MOST_CANDIDATES, MOST_SHORT = 999_999_999, 65_535
 
 
-def damaged_scripts():
+def damaged_scripts() -> Iterator[str]:
     """The script itself, one without rows, and the script with another text in place of each letter."""
     yield SCRIPT
     yield ""
@@ -36,40 +37,40 @@ def damaged_scripts():
             yield SCRIPT[:at] + other + SCRIPT[at + 1 :]
 
 
-def is_number(text, low, high):
+def is_number(text: str, low: int, high: int) -> bool:
     return re.fullmatch("0|[1-9][0-9]*", text) is not None and low <= int(text) <= high
 
 
-def is_candidate(text):
+def is_candidate(text: str) -> bool:
     return is_number(text, 1, MOST_CANDIDATES)
 
 
-def is_short(text):
+def is_short(text: str) -> bool:
     return is_number(text, 0, MOST_SHORT)
 
 
-def is_turn(text):
+def is_turn(text: str) -> bool:
     return is_number(text, 1, MOST_SHORT)
 
 
-def is_code(text):
+def is_code(text: str) -> bool:
     return re.fullmatch("[A-Za-z0-9-]{1,16}", text) is not None
 
 
-def is_step(text):
+def is_step(text: str) -> bool:
     return OTHER_WORDS.get(text, text) in STEPS[:-1]
 
 
-def is_raised(text):
+def is_raised(text: str) -> bool:
     return is_number(text, 1, MOST_SEATS)
 
 
-def is_asker(text):
+def is_asker(text: str) -> bool:
     return text in ("clerk", "nobody") or is_candidate(text)
 
 
 # what the fields of a row are behind its kind and who asks
-FIELDS = {
+FIELDS: dict[str, tuple[Callable[[str], bool], ...]] = {
     "answer": (is_candidate, is_short, is_turn, lambda text: text in CHOICES),
     "cut": (is_short,),
     "seat": (is_candidate,),
@@ -85,18 +86,18 @@ FIELDS = {
 }
 
 
-def is_request(row):
+def is_request(row: list[str]) -> bool:
     fields = FIELDS.get(row[0])
     return fields is not None and len(row) == len(fields) + 2 and is_asker(row[1]) and all(it(text) for it, text in zip(fields, row[2:]))
 
 
-def rows_of(script):
+def rows_of(script: str) -> tuple[list[list[str]], Optional[int]]:
     """The rows of a script that are not empty, as fields without the empty ones at an end; and the number of the first that is no request, or None."""
     rows = [row for row in (line.rstrip(",").split(",") for line in script.split("\n")) if row != [""]]
     return rows, next((number for number, row in enumerate(rows, 1) if not is_request(row)), None)
 
 
-def told(season, script):
+def told(season: str, script: str) -> tuple[str, str, int]:
     """What `check` and `run` write of a season with this script, and their status."""
     rows, bad = rows_of(script)
     if bad:
