@@ -1,6 +1,7 @@
 """The generated season, line by line, by a plain recipe that shares no code with the program.
 
 The output of `generate` is compared with it, and the measurements take inputs from it."""
+from typing import Iterator
 
 CATEGORIES = ("GEN",) * 8 + ("EWS",) * 2 + ("OBC",) * 6 + ("SC",) * 3 + ("ST",)
 CHOICES = ("withdraw",) + ("freeze",) * 3 + ("slide",) * 3 + ("float",) * 13
@@ -10,15 +11,15 @@ STRIDES = (1, 3, 7, 9)
 class Draws:
     """A linear congruential generator over 64 bits."""
 
-    def __init__(self, seed):
+    def __init__(self, seed: int) -> None:
         self.state = seed
 
-    def draw(self, n):
+    def draw(self, n: int) -> int:
         self.state = (self.state * 6364136223846793005 + 1442695040888963407) % 2**64
         return self.state // 2**33 % n
 
 
-def places(draws, n):
+def places(draws: Draws, n: int) -> list[int]:
     """The places from 1 to n, exchanged."""
     held = list(range(1, n + 1))
     for j in range(n - 1, 0, -1):
@@ -27,7 +28,7 @@ def places(draws, n):
     return held
 
 
-def matrix(n):
+def matrix(n: int) -> Iterator[str]:
     s = n // 800 + 1
     steps = (("OPEN", 2 * s, s // 2, s // 8), ("EWS", s // 2, s // 8, 0), ("OBC", s, s // 4, s // 16),
              ("SC", s // 2, s // 8, 0), ("ST", s // 4, 0, 0))
@@ -36,7 +37,7 @@ def matrix(n):
             yield f"P{k:02d},I{k // 10},{1 + k % 2},{name},{seats},{women},{disabled}"
 
 
-def generated(n, seed):
+def generated(n: int, seed: int) -> Iterator[str]:
     draws = Draws(seed)
     first, second = places(draws, n), places(draws, n)
     register, choices = [], []

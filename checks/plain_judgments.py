@@ -92,7 +92,7 @@ def open_by(make: Callable[..., List[Applicant]]) -> Callable[..., Dict[str, Lis
     return made
 
 
-WRONG = {
+WRONG: Dict[str, Callable[..., Dict[str, List[Applicant]]]] = {
     "kept seats as a share of their own": open_by(as_a_share),
     "kept open seats for the general category alone": open_by(of_the_class_alone),
     "the seats of classes before the open ones": classes_first,

@@ -38,15 +38,27 @@ import itertools
 import os
 import re
 import sys
+from typing import Iterator, NamedTuple, Optional, Union
 
 from cases import first_difference
 import plain_theorems
-from plain_markets import Market, Wrong, drawn_window, lists_in, may_have, rank, replies_of, seats_in
+from plain_markets import Market, Rows, Steps, Wrong, drawn_window, lists_in, may_have, rank, replies_of, seats_in
 from plain_office import STEPS, Office, Season
-from plain_trials import Draw, fair_ones
+from plain_theorems import Seen
+from plain_trials import Draw, Seats, Trial, fair_ones
 
-# how many markets and seasons are drawn, and how many orders of each season are tried
-Drawn = collections.namedtuple("Drawn", "markets seasons orders")
+# the rows of a season, each with who asks it: a candidate, or the clerk
+Order = list[tuple[Union[int, str], str]]
+
+
+class Drawn(NamedTuple):
+    """How many markets and seasons are drawn, and how many orders of each season are tried."""
+
+    markets: int
+    seasons: int
+    orders: int
+
+
 ALL = Drawn(2000, 600, 4)
 # which categories leave their empty seats to others, by the version of the bundle
 LEAVING = {1: ("OBC",), 2: ("EWS", "OBC")}
@@ -54,7 +66,7 @@ LEAVING = {1: ("OBC",), 2: ("EWS", "OBC")}
 # ---- the laws of a round
 
 
-def rural_hospitals(season, seats, found):
+def rural_hospitals(season: Season, seats: Seats, found: Seen) -> None:
     fair = [*fair_ones(season)]
     found["markets with several fair allocations"] += len(fair) > 1
     if seats not in fair:
@@ -66,7 +78,7 @@ def rural_hospitals(season, seats, found):
             raise Wrong(f"the fair allocation {other} fills other numbers of seats than the round {seats}")
 
 
-def strategy_proof(program, market, seats, found):
+def strategy_proof(program: str, market: Market, seats: Seats, found: Seen) -> None:
     cand, own = market.candidate, market.choices[market.candidate]
     for other in market.other_lists() if own else []:
         given = seats_in(replies_of(program, market.text({**market.choices, cand: other}), ["cut,clerk,0"]))
@@ -76,18 +88,18 @@ def strategy_proof(program, market, seats, found):
             raise Wrong(f"candidate {cand} gets {given[cand]} by the list {other}, and {seats.get(cand)} by the true one, {own}")
 
 
-def no_envy(season, seats, found):
+def no_envy(season: Season, seats: Seats, found: Seen) -> None:
     for person, (cand, (code, step)) in itertools.product(season.people, seats.items()):
-        other, own = season.person(cand), season.choices.get(person.id, [])
+        other, own = season.registered(cand), season.choices.get(person.id, [])
         if person.id == cand or code not in own or not may_have(person, season, code, step):
             continue
-        if person.place(season.merit(code)) < other.place(season.merit(code)) and set(other.traits) <= set(person.traits):
+        if person.rank(season.merit(code)) < other.rank(season.merit(code)) and set(other.traits) <= set(person.traits):
             found["pairs of a better one and one with a seat"] += 1
             if rank(own, seats.get(person.id)) > own.index(code):
                 raise Wrong(f"{person.id} is better than {cand}, who has {code} {step}, and has {seats.get(person.id)}")
 
 
-def dereserved_last(season, seats, lists, found):
+def dereserved_last(season: Season, seats: Seats, lists: dict[str, Steps], found: Seen) -> None:
     for code, steps in lists.items():
         applied = [it for it in season.people for own in [season.choices.get(it.id, [])] if code in own and own.index(code) <= rank(own, seats.get(it.id))]
         empty = {step: count - len(people) for step, (count, people) in steps.items() if step not in ("OPEN", "D")}
@@ -101,7 +113,7 @@ def dereserved_last(season, seats, lists, found):
             raise Wrong(f"{code} gives {given} seats to others, and its categories left {left}")
 
 
-def fault_of_market(program, label, market, draw, found):
+def fault_of_market(program: str, label: str, market: Market, draw: Draw, found: Seen) -> Optional[str]:
     """Why the first round of a market is against a law, or None. What was seen is counted. The other numbers and the group are drawn."""
     try:
         text = market.text(market.choices)
@@ -126,9 +138,10 @@ def fault_of_market(program, label, market, draw, found):
 # ---- the law of a season
 
 
-def merged(draw, rows):
+def merged(draw: Draw, rows: Rows) -> Order:
     """The rows of a window in an order that keeps what each one asks in order."""
-    left, order = {who: [*own] for who, own in rows.items()}, []
+    left = {who: [*own] for who, own in rows.items()}
+    order: Order = []
     while left:
         who = sorted(left, key=str)[draw.below(len(left))]
         order.append((who, left[who].pop(0)))
@@ -136,9 +149,10 @@ def merged(draw, rows):
     return order
 
 
-def drawn_orders(draw, season, count):
+def drawn_orders(draw: Draw, season: Season, count: int) -> Iterator[Order]:
     """So many orders of one drawn season, each the rows with who asks them."""
-    office, windows = Office(season), []
+    office = Office(season)
+    windows: list[Rows] = []
     for window in range(season.rounds + 1):
         windows.append(drawn_window(draw, office))
         office.reply(f"cut,clerk,{window}")
@@ -146,9 +160,10 @@ def drawn_orders(draw, season, count):
         yield [it for window, rows in enumerate(windows) for it in [*merged(draw, rows), ("clerk", f"cut,clerk,{window}")]]
 
 
-def replies_by_asker(program, text, order):
+def replies_by_asker(program: str, text: str, order: Order) -> dict[Union[int, str], str]:
     """What each one is replied, one after another, and the texts of the cuts."""
-    lines, found = replies_of(program, text, [row for _, row in order]).splitlines(keepends=True), collections.defaultdict(str)
+    lines = replies_of(program, text, [row for _, row in order]).splitlines(keepends=True)
+    found: dict[Union[int, str], str] = collections.defaultdict(str)
     for who, _ in order:
         found[who] += lines[0]
         has_text, lines = lines[0].startswith(("published ", "final ")), lines[1:]
@@ -158,7 +173,7 @@ def replies_by_asker(program, text, order):
     return dict(found)
 
 
-def fault_of_orders(program, label, text, orders, found):
+def fault_of_orders(program: str, label: str, text: str, orders: list[Order], found: Seen) -> Optional[str]:
     """Why another order within the windows of a season changes a reply, or None."""
     try:
         first, *others = (replies_by_asker(program, text, it) for it in orders)
@@ -173,7 +188,7 @@ def fault_of_orders(program, label, text, orders, found):
     return None
 
 
-def fault_of_rounds(program, label, text, draw, found):
+def fault_of_rounds(program: str, label: str, text: str, draw: Draw, found: Seen) -> Optional[str]:
     """Why the rounds of a season, with drawn answers and raises, are against a theorem, or None."""
     try:
         plain_theorems.hold_rounds(program, draw, text, found)
@@ -210,8 +225,10 @@ LEAST = {
 class Laws:
     """This share of the drawing: what is tried, each a call that gives a fault or None, and what was seen in it."""
 
-    def __init__(self, program, share, seed=1):
-        self.share, self.tried, self.seen, draw = share, [], collections.Counter(), Draw(seed)
+    def __init__(self, program: str, share: float, seed: int = 1) -> None:
+        self.share, draw = share, Draw(seed)
+        self.tried: list[Trial] = []
+        self.seen: Seen = collections.Counter()
         for number in range(round(ALL.markets * share)):
             own = Draw(seed * 65537 + number)
             self.tried.append(functools.partial(fault_of_market, program, f"laws, market {number} of seed {seed}", Market(draw), own, self.seen))
@@ -226,19 +243,23 @@ class Laws:
             market = Market(own, own.below(3) + 1)
             self.tried.append(functools.partial(fault_of_rounds, program, f"laws, rounds {number} of seed {seed}", market.text(market.choices), own, self.seen))
 
-    def lacking(self):
+    def lacking(self) -> Optional[str]:
         """Of what too little was seen, so that a law would hold of nothing; to be asked when all was tried. A share may have less by chance."""
         few = [f"{self.seen[name]} {name}" for name, least in LEAST.items() if self.seen[name] < int(least * self.share / 2)]
         return f"drawn laws: there are only {', '.join(few)}" if few else None
 
 
-def main(words):
+def fault_by(trial: Trial) -> Optional[str]:
+    return trial()
+
+
+def main(words: list[str]) -> int:
     if not 1 <= len(words) <= 3:
         sys.exit(__doc__)
     share, seed = float(words[1]) if len(words) > 1 else 1, int(words[2]) if len(words) > 2 else 1
     laws = Laws(os.path.abspath(words[0]), share, seed)
     with concurrent.futures.ThreadPoolExecutor(os.cpu_count()) as lanes:
-        faults = [it for it in lanes.map(lambda it: it(), laws.tried) if it]
+        faults = [it for it in lanes.map(fault_by, laws.tried) if it]
     faults += [it for it in [laws.lacking()] if it]
     for it in faults:
         print(it)

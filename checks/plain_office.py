@@ -6,7 +6,7 @@ every placement. So it serves for a handful of candidates. It reads the forms of
 import functools
 import itertools
 import math
-from typing import Callable, Iterator, Optional, Sequence, Union, cast
+from typing import Callable, Iterable, Iterator, Optional, Sequence, Union, cast
 
 STEPS = ("OPEN", "EWS", "OBC", "SC", "ST", "D")
 TRAITS = "WDXSFL"
@@ -66,7 +66,7 @@ def certificate(people: tuple[str, ...], left: Protections) -> tuple[str, ...]:
     return ("-", *certificate(people[1:], left))
 
 
-def step_lines(step: str, seats: int, candidates: int, admitted: Sequence[Union[int, str]], letters: tuple[str, ...]) -> str:
+def step_lines(step: str, seats: int, candidates: int, admitted: Sequence[Union[int, str]], letters: Sequence[str]) -> str:
     """The lines of a step: its numbers, how much is honoured, and each of the admitted with the letter of the position."""
     text = f"step {step}seats {seats} candidates {candidates} admitted {len(admitted)}\nhonoured {len(letters) - letters.count('-')}\n"
     return text + "".join(f"{cand} {letter}\n" for cand, letter in zip(admitted, letters))
@@ -92,14 +92,14 @@ class Person:
         self.id, self.category, self.traits, self.token = int(fields[0]), OTHER_WORDS.get(fields[1], fields[1]), fields[2].strip("-"), fields[3]
         self.places = [*fields[4:], "", "", "", ""]
 
-    def place(self, merit: int) -> Optional[int]:
+    def place(self, merit: int) -> Optional[float]:
         """The number of the place in a merit list, None for none."""
         text = self.places[merit - 1]
         return int(text.rstrip("R")) if text else None
 
-    def rank(self, merit: int) -> int:
+    def rank(self, merit: int) -> float:
         """The number of the place in a merit list that has the person: who applies to a programme has a place in its list."""
-        return cast(int, self.place(merit))
+        return cast(float, self.place(merit))
 
     def is_common(self, merit: int) -> bool:
         return self.places[merit - 1].isdigit()
@@ -131,6 +131,12 @@ class Season:
     def person(self, cand: int) -> Optional[Person]:
         return next((it for it in self.people if it.id == cand), None)
 
+    def registered(self, cand: int) -> Person:
+        """The person of a number that the register has."""
+        person = self.person(cand)
+        assert person, f"the register has no candidate {cand}"
+        return person
+
     def merit(self, code: str) -> int:
         return self.programmes[code][1]
 
@@ -145,7 +151,7 @@ class StepList:
         self.letters = certificate(tuple(it.traits for it in self.admitted), protections)
 
 
-def lists_of(season: Season, seats: dict[Seat, int], code: str, applicants: list[Person]) -> list[StepList]:
+def lists_of(season: Season, seats: dict[Seat, int], code: str, applicants: Iterable[Person]) -> list[StepList]:
     """The six lists of a programme from its applicants."""
     merit, empty = season.merit(code), 0
     lists: list[StepList] = []
@@ -371,10 +377,10 @@ class Office:
         return self.refused_own(by, cand) or " ".join(["choices", str(cand), *self.season.choices.get(cand, [])]) + "\n"
 
     def reply_to_register(self, by: str, cand: int) -> str:
-        refused, person = self.refused_own(by, cand), self.season.person(cand)
+        refused = self.refused_own(by, cand)
         if refused:
             return refused
-        assert person
+        person = self.season.registered(cand)
         return " ".join(["register", str(cand), person.category, person.traits or "-", *(it or "-" for it in person.places[:4])]) + "\n"
 
     def reply_to_answers(self, by: str, cand: int) -> str:

@@ -2,6 +2,7 @@
 
 It reads the forms of docs/FORMATS.md by itself, line by line and byte by byte. Of a bundle it knows what its section lines are and no more."""
 import re
+from typing import Callable, Iterator, Optional
 
 MOST_BYTES = 134_217_728
 TITLES = (b"[season]", b"[register]", b"[matrix]", b"[choices]")
@@ -12,32 +13,33 @@ class Fault(Exception):
     """The first fault, as its line."""
 
 
-def without_mark(text):
+def without_mark(text: bytes) -> bytes:
     return text[len(MARK) :] if text.startswith(MARK) else text
 
 
-def lines_of(text):
+def lines_of(text: bytes) -> list[bytes]:
     """The lines with their ends."""
     return re.findall(rb"[^\n]*\n|[^\n]+", text)
 
 
-def title(line):
+def title(line: bytes) -> bytes:
     """A section line's name, or a first line, without its end and the commas before it."""
     line = line[:-1] if line.endswith(b"\n") else line
     line = line[:-1] if line.endswith(b"\r") else line
     return line.rstrip(b",")
 
 
-def is_empty(line):
+def is_empty(line: bytes) -> bool:
     return line in (b"\n", b"\r\n", b"\r")
 
 
 # ---- records
 
 
-def records(body):
+def records(body: bytes) -> Iterator[list[bytes]]:
     """The comma-separated records of a body, each with its fields."""
-    body, fields, field, at = without_mark(body), [], bytearray(), 0
+    body, field, at = without_mark(body), bytearray(), 0
+    fields: list[bytes] = []
     quoted, begun = False, False
     while at < len(body):
         byte = body[at : at + 1]
@@ -66,7 +68,7 @@ def records(body):
         yield [*fields, bytes(field)]
 
 
-def rows_of(body):
+def rows_of(body: bytes) -> list[list[bytes]]:
     """The rows of a body: empty fields at a record's end are none, and a record without fields is none."""
     rows = []
     for record in records(body):
@@ -77,18 +79,18 @@ def rows_of(body):
     return rows
 
 
-def quoted_row(row):
+def quoted_row(row: list[bytes]) -> bytes:
     return b",".join(b'"' + it.replace(b"\n", b" ").replace(b'"', b'""') + b'"' for it in row) + b"\n"
 
 
 # ---- what comes before the bundle
 
 
-def line_fault(number):
+def line_fault(number: int) -> Fault:
     return Fault(f"fault: units line {number} Section")
 
 
-def cut(lines):
+def cut(lines: list[bytes]) -> tuple[bytes, bytes, bytes]:
     """The bodies of the units and of the states, and the bundle with the number of its first line, from 1."""
     if not lines or title(lines[0]) != b"office units 1":
         raise Fault("fault: units BadFirstLine")
@@ -107,12 +109,12 @@ def cut(lines):
         at = end
     if at < begin or begin == len(lines):
         raise line_fault(at + 1)
-    return (*bodies, b"".join(lines[begin:]))
+    return bodies[0], bodies[1], b"".join(lines[begin:])
 
 
-def homes(rows, most, is_key, fault):
+def homes(rows: list[list[bytes]], most: int, is_key: Callable[[bytes], object], fault: str) -> dict[bytes, bytes]:
     """The state of each key, by the rows of a section."""
-    states = {}
+    states: dict[bytes, bytes] = {}
     for number, row in enumerate(rows, 1):
         if len(row) != 2 or number > most or row[0] in states or not is_key(row[0]) or not re.fullmatch(rb"[A-Z]{2}", row[1]):
             raise Fault(fault % number)
@@ -123,7 +125,7 @@ def homes(rows, most, is_key, fault):
 # ---- the bundle
 
 
-def choices_of(bundle):
+def choices_of(bundle: bytes) -> Optional[tuple[int, int]]:
     """Where the choices of a bundle begin and end; nothing where it is not cut into its sections."""
     try:
         bundle.decode("utf-8")
@@ -150,7 +152,7 @@ def choices_of(bundle):
     return found[3][1:]
 
 
-def mapped(row, number, units, states):
+def mapped(row: list[bytes], number: int, units: dict[bytes, bytes], states: dict[bytes, bytes]) -> list[bytes]:
     """A row of choices with units in the place of divided programmes."""
     fields = row[:1]
     for field in row[1:]:
@@ -164,15 +166,15 @@ def mapped(row, number, units, states):
     return fields
 
 
-def plain_bundle(text):
+def plain_bundle(text: bytes) -> bytes:
     """The plain bundle that a bundle with units comes to; a `Fault` where it has one."""
     if len(text) > MOST_BYTES:
         raise Fault("fault: units TooLong")
-    units, states, bundle = cut(lines_of(without_mark(text)))
+    units_body, states_body, bundle = cut(lines_of(without_mark(text)))
     is_code = re.compile(rb"[A-Za-z0-9-]{1,13}").fullmatch
     is_number = re.compile(rb"[1-9][0-9]{0,8}").fullmatch
-    units = homes(rows_of(units), 2000, is_code, "fault: units row %d BadUnit")
-    states = homes(rows_of(states), 250_000, is_number, "fault: states row %d BadState")
+    units = homes(rows_of(units_body), 2000, is_code, "fault: units row %d BadUnit")
+    states = homes(rows_of(states_body), 250_000, is_number, "fault: states row %d BadState")
     place = choices_of(bundle)
     if place is None:
         return bundle
