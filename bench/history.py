@@ -13,11 +13,15 @@ import subprocess
 import sys
 import threading
 import time
+from typing import Callable, Optional
 
 TOP = os.path.dirname(os.path.dirname(os.path.abspath(__file__)))
 sys.path.insert(0, f"{TOP}/checks")
 import plain_http
-from plain_office import CHOICES, STEPS, Office, Season
+from plain_office import CHOICES as CHOICES, STEPS as STEPS, Answer, Office, Raise, Round, Season
+
+# a status and a body
+Reply = tuple[int, bytes]
 
 ROUNDS, CANDIDATES, PROGRAMMES = 4, (1, 2, 3, 4, 5, 6), ("A", "B", "C", "D")
 BUNDLE = """office bundle 1
@@ -52,19 +56,23 @@ candidate,programmes
 class Op:
     """A request that a client sent: when it was asked, and what came, and when, if anything came."""
 
-    def __init__(self, row):
-        self.row, self.asked, self.replied, self.reply = row, time.monotonic(), float("inf"), None
+    def __init__(self, row: str) -> None:
+        self.row, self.asked, self.replied = row, time.monotonic(), float("inf")
+        self.reply: Optional[Reply] = None
 
 
 class Served:
     """The office over a store, which is killed and started again at the same port."""
 
-    def __init__(self, program, folder, port):
-        self.program, self.store, self.port, self.child = program, f"{folder}/season.db", port, None
+    child: subprocess.Popen[bytes]
 
-    def start(self, start, bundle=b""):
+    def __init__(self, program: str, folder: str, port: int) -> None:
+        self.program, self.store, self.port = program, f"{folder}/season.db", port
+
+    def start(self, start: str, bundle: bytes = b"") -> Reply:
         words = [self.program, "serve", "100000", "8", start, str(self.port), self.store]
         self.child = subprocess.Popen(words, stdin=subprocess.PIPE, stdout=subprocess.DEVNULL, stderr=subprocess.DEVNULL)
+        assert self.child.stdin
         self.child.stdin.write(bundle)
         self.child.stdin.close()
         for _ in range(12_000):
@@ -76,7 +84,7 @@ class Served:
                 time.sleep(0.01)
         sys.exit("bench: the office does not listen")
 
-    def asked(self, method, path, token, body):
+    def asked(self, method: str, path: str, token: Optional[str], body: bytes) -> Reply:
         link = http.client.HTTPConnection("127.0.0.1", self.port, timeout=30)
         try:
             link.request(method, path, body=body or None, headers={"X-Office-Token": token} if token else {})
@@ -85,7 +93,7 @@ class Served:
         finally:
             link.close()
 
-    def kill(self):
+    def kill(self) -> None:
         self.child.kill()
         self.child.wait()
 
@@ -96,13 +104,14 @@ class Served:
 class Client(threading.Thread):
     """Asks one request after another. One without a reply is asked again, until there is one."""
 
-    def __init__(self, name, served, season, seed, more):
+    def __init__(self, name: str, served: Served, season: Season, seed: str, more: bool) -> None:
         super().__init__(daemon=True)
         self.name, self.served, self.season, self.draws, self.more = name, served, season, random.Random(seed), more
-        self.ops, self.stop = [], threading.Event()
-        self.window, self.turn, self.pace, self.cut_at = 0, 1, 0, 0
+        self.ops: list[Op] = []
+        self.stop = threading.Event()
+        self.window, self.turn, self.pace, self.cut_at = 0, 1, 0.0, 0.0
 
-    def run(self):
+    def run(self) -> None:
         while not self.stop.is_set():
             row = self.next_row()
             while not self.stop.is_set():
@@ -118,7 +127,7 @@ class Client(threading.Thread):
                 break
             time.sleep(self.draws.uniform(0, 0.04))
 
-    def saw(self, row, status, body):
+    def saw(self, row: str, status: int, body: bytes) -> None:
         """Learns how far the office is, as a page does."""
         told = json.loads(body) if body else {}
         if told.get("name") in ("Late", "Ahead") or told.get("reply") == "state":
@@ -129,10 +138,11 @@ class Client(threading.Thread):
         elif told.get("name") == "Gap":
             self.turn = told["last"] + 1
 
-    def next_row(self):
-        return getattr(self, f"row_of_{self.name.rstrip('0123456789')}")()
+    def next_row(self) -> str:
+        row_of: Callable[[], str] = getattr(self, f"row_of_{self.name.rstrip('0123456789')}")
+        return row_of()
 
-    def row_of_candidate(self):
+    def row_of_candidate(self) -> str:
         cand = self.name[len("candidate") :]
         drawn = self.draws.random()
         if drawn < 0.1:
@@ -144,12 +154,12 @@ class Client(threading.Thread):
         asked = ["seat", "choices", *(["register", "answers"] if self.more else [])]
         return self.draws.choice([f"{it},{cand},{cand}" for it in asked] + [f"why,{cand},{cand},{self.draws.choice(self.season.choices[int(cand)])}"])
 
-    def row_of_onlooker(self):
+    def row_of_onlooker(self) -> str:
         number, code = self.draws.randint(1, ROUNDS + 1), self.draws.choice(PROGRAMMES)
         rows = ["state,nobody", f"list,nobody,{number},{code}", f"round,nobody,{number}", "seat,nobody,1"]
         return self.draws.choice(rows + ([f"cutoffs,nobody,{number},{code}"] if self.more else []))
 
-    def row_of_clerk(self):
+    def row_of_clerk(self) -> str:
         drawn = self.draws.random()
         if drawn < 0.15:
             return "state,nobody"
@@ -161,7 +171,7 @@ class Client(threading.Thread):
         return f"seat,clerk,{self.draws.choice(CANDIDATES)}"
 
 
-def asked_by_eight(program, folder, port, seconds, seed, more):
+def asked_by_eight(program: str, folder: str, port: int, seconds: int, seed: int, more: bool) -> tuple[str, list[Op], int]:
     """Runs eight clients for so many seconds, with kills in between: what they asked, and how often the office was killed."""
     season, draws = Season(BUNDLE), random.Random(seed)
     served = Served(program, folder, port)
@@ -188,17 +198,20 @@ def asked_by_eight(program, folder, port, seconds, seed, more):
 
 # ---- the history
 
+# the rows of each window, in their order
+Windows = dict[int, list[str]]
+
 
 class Write:
     """An accepted request with the row that asked for it, first asked and first replied at these moments."""
 
-    def __init__(self, row, ops):
+    def __init__(self, row: str, ops: list[Op]) -> None:
         mine = [it for it in ops if it.row == row]
         self.row, self.asked = row, min((it.asked for it in mine), default=float("inf"))
         self.replied = min((it.replied for it in mine if it.reply and it.reply[0] == 200), default=float("inf"))
 
 
-def rows_of(store):
+def rows_of(store: str) -> tuple[Windows, Windows, int]:
     """The accepted answers and raises of a store, window by window, and the number of cuts."""
     base = sqlite3.connect(store)
     try:
@@ -207,7 +220,8 @@ def rows_of(store):
         ((cuts,),) = base.execute("SELECT cuts FROM phase").fetchall()
     finally:
         base.close()
-    said, lifted = collections.defaultdict(list), collections.defaultdict(list)
+    said: Windows = collections.defaultdict(list)
+    lifted: Windows = collections.defaultdict(list)
     for window, cand, turn, choice in answers:
         said[window].append(f"answer,{cand},{cand},{window},{turn},{CHOICES[choice]}")
     for window, programme, step, seats in raises:
@@ -215,9 +229,10 @@ def rows_of(store):
     return said, lifted, cuts
 
 
-def merged(one, other):
+def merged(one: list[Write], other: list[Write]) -> list[Write]:
     """Two lists of writes, each in its order, in one order: always the one that had to be replied to earlier, itself or one behind it."""
-    found, lists = [], [list(one), list(other)]
+    found: list[Write] = []
+    lists = [list(one), list(other)]
     while lists[0] or lists[1]:
         due = [min((it.replied for it in rest), default=float("inf")) for rest in lists]
         at = 0 if lists[0] and (not lists[1] or due[0] <= due[1]) else 1
@@ -225,10 +240,10 @@ def merged(one, other):
     return found
 
 
-def history_of(store, ops):
+def history_of(store: str, ops: list[Op]) -> list[Write]:
     """The accepted requests of a store in one order."""
     said, lifted, cuts = rows_of(store)
-    found = []
+    found: list[Write] = []
     for window in range(ROUNDS + 2):
         found += merged([Write(row, ops) for row in said[window]], [Write(row, ops) for row in lifted[window]])
         if window < cuts:
@@ -239,15 +254,17 @@ def history_of(store, ops):
 class Past:
     """What the plain office replies after each prefix of the history."""
 
-    def __init__(self, history):
-        self.season, self.kept = Season(BUNDLE), {}
-        office, self.states = Office(self.season), []
+    def __init__(self, history: list[Write]) -> None:
+        self.season = Season(BUNDLE)
+        self.kept: dict[tuple[int, str], Reply] = {}
+        self.states: list[tuple[list[Answer], list[Raise], int, list[Round]]] = []
+        office = Office(self.season)
         for row in [None, *(it.row for it in history)]:
             if row:
                 office.reply(row)
             self.states.append((list(office.answers), list(office.raises), office.cuts, list(office.rounds)))
 
-    def reply(self, place, row):
+    def reply(self, place: int, row: str) -> Reply:
         if (place, row) not in self.kept:
             office = Office(self.season)
             answers, raises, office.cuts, rounds = self.states[place]
@@ -256,7 +273,7 @@ class Past:
         return self.kept[place, row]
 
 
-def fault_of(history, ops, past):
+def fault_of(history: list[Write], ops: list[Op], past: Past) -> Optional[str]:
     """Why some reply has no place in the history, or None."""
     for at, it in enumerate(history):
         if it.asked == float("inf"):
@@ -264,8 +281,10 @@ def fault_of(history, ops, past):
         if any(later.replied < it.asked for later in history[at:]):
             return f"{it.row} is before a request whose reply had come when it was asked"
     number = {it.row: at for at, it in enumerate(history)}
-    done, least, waiting = [], 0, sorted((it for it in ops if it.reply), key=lambda it: it.asked)
+    done: list[tuple[float, int]] = []
+    least, waiting = 0, sorted((it for it in ops if it.reply), key=lambda it: it.asked)
     for op in waiting:
+        assert op.reply
         least = max([least, *(place for replied, place in done if replied < op.asked)])
         done = [it for it in done if it[0] >= op.asked]
         most = next((at for at, it in enumerate(history) if it.asked > op.replied), len(history))
@@ -281,9 +300,10 @@ def fault_of(history, ops, past):
     return None
 
 
-def changed(ops, past, draws):
+def changed(ops: list[Op], past: Past, draws: random.Random) -> tuple[Op, Reply]:
     """One reply in the place of another: that of another moment, or a number in it changed. None if the plain office always replies the same."""
     op = draws.choice([it for it in ops if it.reply and it.reply[0] in (200, 409)])
+    assert op.reply
     others = {past.reply(at, op.row) for at in range(len(past.states))} - {op.reply}
     status, body = op.reply
     digits = [at for at, it in enumerate(body) if 48 <= it <= 57]

@@ -4,18 +4,20 @@ import socket
 import subprocess
 import sys
 import time
+from typing import Optional
 
 from generated import generated
 from measured import PROGRAM, write_lines
 
 
-def free_port():
+def free_port() -> int:
     with socket.socket() as it:
         it.bind(("127.0.0.1", 0))
-        return it.getsockname()[1]
+        port: int = it.getsockname()[1]
+        return port
 
 
-def connected(port, child):
+def connected(port: int, child: subprocess.Popen[bytes]) -> socket.socket:
     """A connection, once the server takes some."""
     for _ in range(2000):
         try:
@@ -27,10 +29,14 @@ def connected(port, child):
     sys.exit("bench: a server does not listen")
 
 
+# replies a second, both percentiles in microseconds, the checksum, and the peak memory in MB
+Figures = tuple[float, int, int, str, float]
+
+
 class Season:
     """The generated season: its bundle, who has a seat in round 1, and that round's text."""
 
-    def __init__(self, folder, n):
+    def __init__(self, folder: str, n: int) -> None:
         self.bundle, self.round, self.everybody, self.seated = (os.path.join(folder, it) for it in ("bundle", "round", "everybody", "seated"))
         lines = [*generated(n, 7)]
         lines = lines[: lines.index("[requests]")]
@@ -44,7 +50,7 @@ class Season:
         write_lines(self.seated, (f"{row[0]} {row[3]}" for row in people if row[0] in has_seat))
         self.n, self.seats = n, len(has_seat)
 
-    def office(self, workers, port, store, env=None):
+    def office(self, workers: int, port: int, store: str, env: Optional[dict[str, str]] = None) -> subprocess.Popen[bytes]:
         words = [PROGRAM, "serve", "100000", str(workers), "new", str(port), store]
         with open(self.bundle, "rb") as source:
             child = subprocess.Popen(words, stdin=source, stdout=subprocess.DEVNULL, stderr=subprocess.DEVNULL, env=env)
@@ -57,7 +63,7 @@ class Season:
             sys.exit(f"bench: the first cut is replied by {reply[-100:]!r}")
         return child
 
-    def plain(self, server, workers, port, store, is_grouped=True, env=None):
+    def plain(self, server: str, workers: int, port: int, store: str, is_grouped: bool = True, env: Optional[dict[str, str]] = None) -> subprocess.Popen[bytes]:
         """The plain server, which syncs a file once for all who wait, or for each answer."""
         words = [server, str(workers), str(port), self.bundle, self.round, store, *(["grouped"] if is_grouped else [])]
         child = subprocess.Popen(words, env=env)
@@ -65,13 +71,13 @@ class Season:
         return child
 
 
-def clear(store):
+def clear(store: str) -> None:
     for end in ("", "-wal"):
         if os.path.exists(store + end):
             os.remove(store + end)
 
 
-def loaded(load, child, port, clients, season, kind, asked):
+def loaded(load: str, child: subprocess.Popen[bytes], port: int, clients: int, season: Season, kind: str, asked: int) -> Figures:
     """What the load prints of a server: replies, seconds, both percentiles, replies that were no 200, and the checksum; and the server's peak memory."""
     people = season.seated if kind == "answer" else season.everybody
     try:
