@@ -11,36 +11,41 @@ import subprocess
 import sys
 import tempfile
 import time
+from typing import Any, Callable, Concatenate, Iterable, Iterator, Optional, ParamSpec
 
 from cases import ROOMS, SECONDS
 
 TOP = os.path.dirname(os.path.dirname(os.path.realpath(__file__)))
+Given = ParamSpec("Given")
+Fault = Optional[str]
+# what was written to output and to standard error, and the status
+Ended = tuple[bytes, bytes, int]
 NO_STORE = (b"", b"cannot open store\n", 1)
 # what runs as the superuser may write everywhere, so a file that may only be read is tried as nobody
-NOBODY = {"user": 65_534, "group": 65_534, "extra_groups": []} if os.geteuid() == 0 else {}
+NOBODY: dict[str, Any] = {"user": 65_534, "group": 65_534, "extra_groups": []} if os.geteuid() == 0 else {}
 
 
-def ended(words, room, **how):
-    """What was written to output and to standard error, where they are looked at, and the status."""
+def ended(words: list[str], room: str, **how: Any) -> Ended:
+    """What was written to output and to standard error, nothing where they are not looked at, and the status. The rest is for `subprocess.run`."""
     how = {"stdout": subprocess.PIPE, "stderr": subprocess.PIPE, **how}
     if "input" not in how and "stdin" not in how:
         how["stdin"] = subprocess.DEVNULL
     ran = subprocess.run(words, cwd=room, timeout=SECONDS, **how)
-    return ran.stdout, ran.stderr, ran.returncode
+    return ran.stdout or b"", ran.stderr or b"", ran.returncode
 
 
-def is_so(label, came, wanted):
-    return None if came == wanted else f"{label}: {came[0] or b''!r:.80}, standard error {came[1] or b''!r:.80} and status {came[2]} came, and not {wanted[0] or b''!r:.80}, {wanted[1] or b''!r:.80} and {wanted[2]}"
+def is_so(label: str, came: Ended, wanted: Ended) -> Fault:
+    return None if came == wanted else f"{label}: {came[0]!r:.80}, standard error {came[1]!r:.80} and status {came[2]} came, and not {wanted[0]!r:.80}, {wanted[1]!r:.80} and {wanted[2]}"
 
 
-def in_a_room(trial):
+def in_a_room(trial: Callable[Concatenate[str, Given], Fault]) -> Callable[Given, Fault]:
     """A trial in a folder of its own, in which every user may look."""
 
     @functools.wraps(trial)
-    def tried(*given):
+    def tried(*given: Given.args, **more: Given.kwargs) -> Fault:
         with tempfile.TemporaryDirectory(prefix="edge-", dir=ROOMS) as room:
             os.chmod(room, 0o755)
-            return trial(room, *given)
+            return trial(room, *given, **more)
 
     return tried
 
@@ -49,7 +54,7 @@ def in_a_room(trial):
 
 
 @in_a_room
-def closed_input(room, program, bundle, words):
+def closed_input(room: str, program: str, bundle: bytes, words: list[str]) -> Fault:
     """The input is closed, and then one of which no byte can be read; where the words name a store, it has a season."""
     if words[0] == "resume":
         ended([program, "run", words[1]], room, input=bundle)
@@ -61,16 +66,16 @@ def closed_input(room, program, bundle, words):
 
 
 @in_a_room
-def full_output(room, program, given, words):
+def full_output(room: str, program: str, given: bytes, words: list[str]) -> Fault:
     """The output has no room, and then it is closed."""
     with open("/dev/full", "wb") as it:
         full = ended([program, *words], room, input=given, stdout=it)
     closed = ended(["sh", "-c", 'exec "$0" "$@" >&-', program, *words], room, input=given)
-    return is_so(f"{words}, with a full output", full, (None, b"", 5)) or is_so(f"{words}, with its output closed", closed, (b"", b"", 5))
+    return is_so(f"{words}, with a full output", full, (b"", b"", 5)) or is_so(f"{words}, with its output closed", closed, (b"", b"", 5))
 
 
 @in_a_room
-def lost_replies(room, program, bundle):
+def lost_replies(room: str, program: str, bundle: bytes) -> Fault:
     """Over a file each reply is given on at once: where the output has no room, the first request alone was answered. What it kept remains, and with all
     requests again the season goes on as where every reply was written."""
     with open("/dev/full", "wb") as it:
@@ -81,14 +86,14 @@ def lost_replies(room, program, bundle):
     told = ended([program, "run", "told.db"], room, input=bundle)
     again = ended([program, "resume", "lost.db"], room, input=bundle.partition(b"[requests]\n")[2])
     several = None if kept <= 1 else f"run over a file with a full output: {kept} requests were kept, and not the first alone"
-    return is_so("run over a file with a full output", lost, (None, b"", 5)) or several or is_so("resume after it, with all requests", again, told)
+    return is_so("run over a file with a full output", lost, (b"", b"", 5)) or several or is_so("resume after it, with all requests", again, told)
 
 
 # ---- stores
 
 
 @in_a_room
-def not_a_store(room, program, bundle):
+def not_a_store(room: str, program: str, bundle: bytes) -> Fault:
     """A folder, a file in no folder, a file of text, and one that may only be read."""
     os.mkdir(f"{room}/folder")
     with open(f"{room}/text", "w", encoding="utf-8") as it:
@@ -103,7 +108,7 @@ def not_a_store(room, program, bundle):
 
 
 @in_a_room
-def only_read(room, program, bundle):
+def only_read(room: str, program: str, bundle: bytes) -> Fault:
     """A store that may only be read, and whose folder may only be read."""
     own = f"{room}/program"
     # copied by another process: a program that this one has open for writing is busy, also in each child that another thread is just starting
@@ -117,7 +122,7 @@ def only_read(room, program, bundle):
     return is_so("resume of a store that may only be read", came, NO_STORE)
 
 
-def is_locked(path):
+def is_locked(path: str) -> bool:
     """Whether some program has a lock on a file: the system lists it by the file's number, where it lists locks at all."""
     number = os.stat(path).st_ino
     with contextlib.suppress(OSError), open("/proc/locks", encoding="ascii") as table:
@@ -125,7 +130,7 @@ def is_locked(path):
     return False
 
 
-def has_open(office, path):
+def has_open(office: subprocess.Popen[bytes], path: str) -> bool:
     """Whether a running program has opened a file."""
     folder = f"/proc/{office.pid}/fd"
     with contextlib.suppress(OSError):
@@ -133,13 +138,13 @@ def has_open(office, path):
     return False
 
 
-def with_the_store(room, program):
+def with_the_store(room: str, program: str) -> subprocess.Popen[bytes]:
     """A running office that has the store of the room, whose requests have not ended: it has opened the file and locked it. Where the system lists no locks,
     the office gets a second for it."""
     store = f"{room}/season.db"
     for _ in range(20):
         office = subprocess.Popen([program, "resume", "season.db"], cwd=room, stdin=subprocess.PIPE, stdout=subprocess.PIPE)
-        opened = None
+        opened: Optional[float] = None
         while office.poll() is None:
             opened = opened or (time.monotonic() if has_open(office, store) else None)
             if opened and (is_locked(store) or time.monotonic() > opened + 1):
@@ -149,7 +154,7 @@ def with_the_store(room, program):
 
 
 @in_a_room
-def open_elsewhere(room, program, bundle):
+def open_elsewhere(room: str, program: str, bundle: bytes) -> Fault:
     """A store that another program has: the office itself, and one that writes; and once they have ended, it goes on."""
     ended([program, "run", "season.db"], room, input=bundle)
     words, asks = [program, "resume", "season.db"], {"input": b"state,nobody\n"}
@@ -169,7 +174,7 @@ def open_elsewhere(room, program, bundle):
     return is_so("resume of a store that is being written", came, NO_STORE) or is_so("resume after that", ended(words, room, **asks), told)
 
 
-def crashed_store(room, program, candidates=200):
+def crashed_store(room: str, program: str, candidates: int = 200) -> list[bytes]:
     """The bytes of a store and of its log, which a killed run left, with frames in the log.
     A run that ended well before it was killed leaves none, so a season of twice as many candidates is run then."""
     bundle, path = ended([program, "generate", str(candidates), "7", "text"], room)[0], f"{room}/season.db"
@@ -187,7 +192,7 @@ def crashed_store(room, program, candidates=200):
     return crashed_store(room, program, 2 * candidates)
 
 
-def bytes_of(path):
+def bytes_of(path: str) -> list[bytes]:
     """The bytes of a store and of its log."""
     found = []
     for name in (path, f"{path}-wal"):
@@ -196,7 +201,7 @@ def bytes_of(path):
     return found
 
 
-def with_files(path, files):
+def with_files(path: str, files: Iterable[bytes]) -> None:
     """Makes a store and its log of these bytes."""
     for name, content in zip((path, f"{path}-wal"), files):
         with open(name, "wb") as it:
@@ -204,7 +209,7 @@ def with_files(path, files):
 
 
 @in_a_room
-def damaged_head(room, program, _bundle):
+def damaged_head(room: str, program: str, _bundle: bytes) -> Fault:
     """The log of a killed run with one damaged bit in each byte of its head or in its first page, with zeros there, or cut within it: the store is refused and
     neither file changes.
     Undamaged it resumes, and so does the store with all that the log held, next to that log with a first byte of 0: a checkpoint that was cut short leaves it so."""
@@ -228,7 +233,7 @@ def damaged_head(room, program, _bundle):
 
 
 @in_a_room
-def little_memory(room, program, bundle):
+def little_memory(room: str, program: str, bundle: bytes) -> Fault:
     """A bundle for which there is no memory, in the least room in which a small one is read."""
     for room_for in (1 << power for power in range(24, 29)):
         limited = functools.partial(resource.setrlimit, resource.RLIMIT_AS, (room_for, room_for))
@@ -238,13 +243,13 @@ def little_memory(room, program, bundle):
     return "check in little memory: a small bundle wants 256 MiB"
 
 
-def files_end_at(size):
+def files_end_at(size: int) -> None:
     """No file grows beyond this size, as where the disk is full: a write past it gives an error."""
     signal.signal(signal.SIGXFSZ, signal.SIG_IGN)
     resource.setrlimit(resource.RLIMIT_FSIZE, (size, size))
 
 
-def rows_of(path):
+def rows_of(path: str) -> list[list[tuple[Any, ...]]]:
     """All rows of a store, table by table."""
     connection = sqlite3.connect(path)
     try:
@@ -254,7 +259,7 @@ def rows_of(path):
 
 
 @in_a_room
-def full_disk(room, program):
+def full_disk(room: str, program: str) -> Fault:
     """The disk is full at one size after another, up to one with room for all of a generated season: the store is not opened, or its keeper fails after
     replies that are those of the season. With room it then goes on with all requests to the rows of a season that always had some."""
     bundle = ended([program, "generate", "60", "7", "text"], room)[0]
@@ -280,7 +285,7 @@ def full_disk(room, program):
 
 
 @in_a_room
-def launcher_forms(room, words, lacks):
+def launcher_forms(room: str, words: list[str], lacks: bytes) -> Fault:
     """Words of no command: the launcher says what they lack and prints the forms, without any proof."""
     _, said, status = ended([f"{TOP}/office", *words], room)
     wants = [lacks, b"    ./office run STORE ", b"    ./office try WORDS.. "]
@@ -288,17 +293,18 @@ def launcher_forms(room, words, lacks):
 
 
 @in_a_room
-def launcher_help(room, word):
+def launcher_help(room: str, word: str) -> Fault:
     """The forms, when they are asked for."""
     wrote, said, status = ended([f"{TOP}/office", word], room)
     return None if (status, said) == (0, b"") and b"    ./office run STORE " in wrote else f"./office {word}: ended with status {status} and printed {wrote!r:.200}"
 
 
-def launcher_of(room, program):
+def launcher_of(room: str, program: Optional[str]) -> str:
     """A launcher of its own, for which the program is the built one, and the season program too; none has sources."""
-    for name in ("allocation_cli", "season_program") if program else ():
-        os.makedirs(f"{room}/crates/{name}/out")
-        os.symlink(program, f"{room}/crates/{name}/out/{name}")
+    if program:
+        for name in ("allocation_cli", "season_program"):
+            os.makedirs(f"{room}/crates/{name}/out")
+            os.symlink(program, f"{room}/crates/{name}/out/{name}")
     os.makedirs(f"{room}/crates", exist_ok=True)
     with open(f"{room}/crates.txt", "w", encoding="ascii"):
         pass
@@ -309,7 +315,7 @@ def launcher_of(room, program):
 
 
 @in_a_room
-def launcher_without_kit(room, words):
+def launcher_without_kit(room: str, words: list[str]) -> Fault:
     """Neither a program nor the kit: the launcher says what is missing first, and advises nothing that cannot work."""
     office = launcher_of(room, None)
     os.makedirs(f"{room}/bin")
@@ -318,7 +324,7 @@ def launcher_without_kit(room, words):
 
 
 @in_a_room
-def launcher_explains(room, program, bundle, words):
+def launcher_explains(room: str, program: str, bundle: bytes, words: list[str]) -> Fault:
     """An input with a fault: the output is the program's, and the launcher shows the row and the field; a store is left as it is."""
     office, wrong = launcher_of(room, program), bundle.replace(b"2,GEN,-,", b"2,general,-,", 1)
     with open(f"{room}/bundle.txt", "wb") as it:
@@ -333,7 +339,7 @@ def launcher_explains(room, program, bundle, words):
     return None if piped[2] == 3 and b"tools/explain" in piped[1] else f"./office {' '.join(words)}: of a pipe it says {piped[1]!r:.300}"
 
 
-def trials(program, bundle, sheet):
+def trials(program: str, bundle: bytes, sheet: bytes) -> Iterator[Callable[[], Fault]]:
     """What is tried, each a call that gives a fault or None."""
     for words in (["step"], ["check"], ["run", "memory"], ["run", "season.db"], ["resume", "season.db"]):
         yield functools.partial(closed_input, program, bundle, words)
@@ -345,7 +351,7 @@ def trials(program, bundle, sheet):
     yield from launcher_trials(program, bundle)
 
 
-def launcher_trials(program, bundle):
+def launcher_trials(program: str, bundle: bytes) -> Iterator[Callable[[], Fault]]:
     """What is tried of the launcher."""
     for words, lacks in (
         ([], b"no command was given"),

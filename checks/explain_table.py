@@ -4,7 +4,7 @@ these on every case of cases/ that has the fault."""
 ROW = r"line \d+, row \d+ of \[{}\]: .*\n"
 
 
-def of_row(section, rest):
+def of_row(section: str, rest: str) -> str:
     return ROW.format(section) + rest
 
 

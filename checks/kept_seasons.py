@@ -12,6 +12,7 @@ import shutil
 import subprocess
 import sys
 import tempfile
+from typing import Callable, Iterator, Optional
 
 import cases
 
@@ -20,34 +21,34 @@ KEPT = f"{TOP}/cases/kept"
 SOUND = b"audit sound rounds 2\nbest\n"
 
 
-def bytes_of(path):
+def bytes_of(path: str) -> bytes:
     with open(path, "rb") as it:
         return it.read()
 
 
-def copy_store(store, to):
+def copy_store(store: str, to: str) -> None:
     """Copies a store with its log."""
     for end in ("", "-wal"):
         if os.path.exists(store + end):
             shutil.copy(store + end, to + end)
 
 
-def versions():
+def versions() -> list[str]:
     """The versions of which something is kept, the oldest first."""
     found = (re.fullmatch(r"(\d+)\.(\d+)\.(\d+)\.db", it) for it in os.listdir(KEPT))
     return [".".join(it.groups()) for it in sorted(filter(None, found), key=lambda it: tuple(map(int, it.groups())))]
 
 
-def dossier_of(program, store):
+def dossier_of(program: str, store: str) -> bytes:
     ran = subprocess.run([sys.executable, f"{TOP}/tools/dossier", "--without-tokens", "--store", store], stdout=subprocess.PIPE, stderr=subprocess.PIPE, env={**os.environ, "OFFICE": program}, check=True)
     return ran.stdout
 
 
-def texts_of(dossier):
+def texts_of(dossier: bytes) -> bytes:
     return dossier.partition(b"[published]\n")[2]
 
 
-def fault_of(program, version):
+def fault_of(program: str, version: str) -> Optional[str]:
     """Why the program does not continue the store of a version as that version did, or judges its dossier otherwise, or None."""
     with tempfile.TemporaryDirectory(prefix="kept-", dir=cases.ROOMS) as room:
         copy_store(f"{KEPT}/{version}.db", f"{room}/season.db")
@@ -61,7 +62,7 @@ def fault_of(program, version):
     return None if texts_of(dossier) == texts_of(kept) else f"cases/kept/{version}: what is published differs from the dossier of that version"
 
 
-def trials(program):
+def trials(program: str) -> Iterator[Callable[[], Optional[str]]]:
     found = versions()
     with open(f"{TOP}/VERSION", encoding="ascii") as it:
         if found and it.read().strip() not in found:
@@ -70,7 +71,7 @@ def trials(program):
         yield functools.partial(fault_of, program, version)
 
 
-def keep(program):
+def keep(program: str) -> Optional[str]:
     """Makes the store, the replies and the dossier of this version, and keeps them."""
     with open(f"{TOP}/VERSION", encoding="ascii") as it:
         version = it.read().strip()

@@ -6,6 +6,7 @@ import re
 import shutil
 import subprocess
 import tempfile
+from typing import Callable, Iterator, Optional
 
 from cases import SECONDS, first_difference
 
@@ -16,7 +17,7 @@ BEGINS = ("./office ", "echo ", "cat ", "sed ", "tools/", "rm ", "mkdir ", "cp "
 SKIPPED = re.compile(r"^\./office (serve|WORDS|try|check units|--version)|^curl |^deploy/| {4}", re.M)
 
 
-def calls_of(text):
+def calls_of(text: str) -> list[tuple[str, str]]:
     """The calls, each with the output that is shown right below it, which may be none."""
     parts, found = [*re.finditer(r"(?:^ {4}.*\n)+", text, re.M)], []
     blocks = [re.sub(r"^ {4}", "", it[0], flags=re.M) for it in parts]
@@ -27,13 +28,13 @@ def calls_of(text):
     return found
 
 
-def is_shown(wrote, shown):
+def is_shown(wrote: str, shown: str) -> bool:
     """Whether the output is what is shown. A line `..` is for some lines that are left out."""
     parts = [re.escape(it) for it in re.split(r"^\.\.\n", shown, flags=re.M)]
     return re.fullmatch(r"(?:.*\n)*?".join(parts), wrote) is not None
 
 
-def fault_of(program, name):
+def fault_of(program: str, name: str) -> Optional[str]:
     """Why a call of the document does not do what the document shows, or None."""
     with open(f"{TOP}/{name}", encoding="utf-8") as it:
         calls = calls_of(it.read())
@@ -57,7 +58,7 @@ FIRST_CUT = "cut,clerk,0\n"
 COMPARED = re.compile(r"^\| `([\w-]+)` \| (\d+) \| (\d+) \| ([\w-]+) \| (\d+) \| (.*?) \| .*\|$", re.M)
 
 
-def script_of(example, number):
+def script_of(example: str, number: int) -> tuple[list[str], str]:
     """The words that run an example, and its input as far as the cut that publishes the round of this number."""
     folder = f"{TOP}/examples/{example}"
     name = next(it for it in ("bundle.txt", "divided.txt", "dossier.txt") if os.path.exists(f"{folder}/{it}"))
@@ -67,7 +68,7 @@ def script_of(example, number):
     return ["units" if name == "divided.txt" else "run", "memory"], f"{season}[requests]\n{kept[0] if kept else FIRST_CUT}"
 
 
-def comparison(program, example, number, cand, code, place, lines):
+def comparison(program: str, example: str, number: str, cand: str, code: str, place: str, lines: str) -> Optional[str]:
     """Why the program does not show the place and the cutoffs that a row of the table compares, or None."""
     words, script = script_of(example, int(number))
     asked = f"{script}register,clerk,{cand}\ncutoffs,nobody,{number},{code}\n"
@@ -79,13 +80,13 @@ def comparison(program, example, number, cand, code, place, lines):
     return f"docs/CHECKING.md: {example}, round {number}, candidate {cand}, {code}: the program shows otherwise: {wrote[-200:]!r}"
 
 
-def comparisons(program):
+def comparisons(program: str) -> list[Callable[[], Optional[str]]]:
     with open(f"{TOP}/docs/CHECKING.md", encoding="utf-8") as it:
         rows = COMPARED.findall(it.read())
     return [functools.partial(comparison, program, *row) for row in rows] or [lambda: "docs/CHECKING.md: no refusal is compared with a cutoff"]
 
 
-def trials(program):
+def trials(program: str) -> Iterator[Callable[[], Optional[str]]]:
     for name in DOCUMENTS:
         yield functools.partial(fault_of, program, name)
     yield from comparisons(program)
