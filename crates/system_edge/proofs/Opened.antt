@@ -1,20 +1,24 @@
 -- A keeper over a connection, with its tables made.
-use Rattle.std.proofs.Common.{◌≡◌, Bool, Option, Some, None, IfSome, arith, subst}
+use Rattle.std.proofs.Common.{◌≡◌, ◌∙◌, ◌&&◌, inl, inr, Bool, false, true≢false, IsTrue, Option, Some, None, IfSome, arith, ap, subst, sym}
+use Rattle.std.proofs.lemmas.Bool.{cases_Bool}
+use Rattle.sqlite_trees.proofs.Doubt.{no_doubt}
 use Rattle.sqlite.specs.Store.{Ghosts}
 use Rattle.sqlite.specs.State.{State, HasCleanDisk}
+use Rattle.sqlite.specs.Effect.{Database}
 use Rattle.sqlite.specs.Held.{Held, IsNew, state}
-use Rattle.sqlite.specs.Files.{file_state, image_of, over_files, Finds, IsOpened}
+use Rattle.sqlite.specs.Files.{file_state, image_of, over_files, AreFoundIn, Finds, IsOpened}
 use Rattle.sqlite.specs.Start.{FindsIn}
 use Rattle.sqlite_disk.specs.declared.Files.{Files}
 use Rattle.sqlite_disk.specs.declared.Disk as disk
 use Rattle.sqlite_wal.specs.Recovery.{Image}
 use Rattle.sqlite_store.specs.declared.store.FileStore.{FileStore}
-use Rattle.kept_rows.specs.Tables.{NoSeason}
-use Rattle.stored_tables.specs.Told.{told, tables_in, without_raises}
-use Rattle.stored_tables.specs.Layout.{no_schema, first_four, stored}
+use Rattle.kept_rows.specs.Tables.{NoSeason, IsTold}
+use Rattle.stored_tables.specs.Told.{told, told_if, tables_in, without_raises}
+use Rattle.stored_tables.specs.Layout.{no_schema, first_four, has_tables as has_layout, stored}
 use Rattle.keeper_sqlite.specs.Commits.{CommitsOnce}
 use Rattle.keeper_sqlite.specs.Stored.{Stored}
 use Rattle.system_edge.specs.Heads.{HasSoundHead}
+use Rattle.system_edge.specs.Held.{AreHeld}
 use Rattle.system_edge.specs.Hidden.{HidesNothing}
 use Rattle.system_edge.specs.Tables.{HasTables, HoldsFiles, IsOpenedOver, MakesTables}
 
@@ -35,6 +39,22 @@ module _ {S : Type 0} {g : Ghosts S} where
       → HasTables g begun keeper
   has_tables begun keeper made faults once fresh older whole =
       record { made = made; faults = faults; honest = λ clean. honest (state g begun) (state g keeper.connection) once clean; fresh = fresh; older = older; whole = whole }
+
+module _ {S : Type 0} (g : Ghosts S) where
+  -- visible tables are those of an open store
+  told_open : (connection : Held S) → IsTold (told (state g connection)) → IsTrue (state g connection).is_open
+  told_open connection it = elim (cases_Bool (state g connection).is_open) [
+    | inl holds ↦ holds
+    | inr fails ↦ absurd (subst (λ (b : Bool). IsTold (told_if (b && has_layout connection.schema) (tables_in (state g connection).now.trees))) fails it)
+  ]
+
+  -- and a store that is not clean is shut
+  pub told_clean : (connection : Held S) → ((g.view connection.store).is_clean ≡ false → (g.view connection.store).is_open ≡ false)
+      → IsTold (told (state g connection)) → HasCleanDisk (state g connection)
+  told_clean connection shut it = elim (cases_Bool (g.view connection.store).is_clean) [
+    | inl holds ↦ no_doubt (g.view connection.store).is_clean holds
+    | inr fails ↦ absurd (true≢false (sym (told_open connection it) ∙ shut fails))
+  ]
 
 module _ {D : Type 0} {g : disk.Ghosts D} where
   -- what was opened over files that held this shows it
@@ -57,3 +77,19 @@ module _ {D : Type 0} {g : disk.Ghosts D} where
   holds_files image begun made new opened is None none = none
   holds_files image begun made new opened is (Some keeper) tables =
       record { begun = begun; is_new = new; opened = opened; tables = subst (λ (it : Stored (FileStore D g)). HasTables over_files it.connection keeper) is tables }
+
+  -- what such a keeper shows is what the two files held
+  pub held : (image : Image) (keeper : Stored (FileStore D g)) → HoldsFiles image keeper → HasCleanDisk (file_state keeper.connection)
+      → AreHeld image (told (file_state keeper.connection))
+  held image keeper it clean =
+      let shown = it.opened (it.tables.honest clean) in
+      let (opens, lives) = shown.opened in
+      record {
+        database = (file_state it.begun).now;
+        sound = (lives opens.is_open).0;
+        found = subst (λ (db : Database). AreFoundIn image db.trees) (sym opens.clean) shown.found.reads;
+        only = λ trees holds. ap (λ (db : Database). db.trees) opens.clean ∙ shown.found.holds trees holds;
+        fresh = it.tables.fresh clean;
+        older = λ strict. it.tables.older strict clean;
+        whole = λ strict. it.tables.whole strict clean;
+      }

@@ -18,7 +18,7 @@ mod stores;
 mod streams;
 
 pub use door::LoopbackDoor;
-pub use files::{FileKeeper, close_keeper, open_keeper};
+pub use files::{FileKeeper, StoreFile, close_keeper, open_keeper};
 pub use link::LoopbackLink;
 pub use listener::{Listener, SystemListener};
 pub use sqlite::Unknown;
