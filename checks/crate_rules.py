@@ -19,7 +19,7 @@ ENGINE = "apply_engine"
 MAY_NAME = {"merit_choice": {"laws", "in_merit_order"}, "open_then_category": {"laws"}}
 # the audit of a special round, and what its code may name of the crates that make rounds: what final admissions leave, and the replay
 SPECIAL = "special_audit"
-OF_MAKERS = {ENGINE: set(), "best_audit": {"take_next"}, "special_round": {"laws", "left_season", "SpecialFault"}, **MAY_NAME}
+OF_MAKERS: dict[str, set[str]] = {ENGINE: set(), "best_audit": {"take_next"}, "special_round": {"laws", "left_season", "SpecialFault"}, **MAY_NAME}
 # what the office uses each ported crate for
 USES = {
     "csv": "reads the rows of sections, and writes choice lists with units",
