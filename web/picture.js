@@ -6,15 +6,16 @@ import { kindOfSeat, OWN_WORDS, SEATS } from "./words.js";
 const MOST_BOXES = 120;
 const MOST_EMPTY = 12;
 
-/** Makes the boxes of a step. `own` is the number of the candidate who looks, or null. */
-function boxes(step, own) {
+/** Makes the boxes of a step. `own` is the number of the candidate who looks, or null; `hasProtected` says whether the step has protected seats, so that
+ * a box names the others too. */
+function boxes(step, own, hasProtected) {
   const rank = new Map(step.rows.map((row, at) => [row, at + 1]));
   const taken = (row) =>
     el(
       "li",
       { class: `${row.slot === "-" ? "" : "protected"} ${row.id === own ? "own" : ""}` },
-      el("strong", {}, row.id),
-      el("span", {}, row.slot === "-" ? SEATS.byMerit : SEATS.protectedFor(row.slot)),
+      el("span", {}, SEATS.candidate, " ", el("strong", {}, row.id)),
+      row.slot !== "-" ? el("span", {}, SEATS.protectedFor(row.slot)) : hasProtected && el("span", {}, SEATS.byMerit),
       el("span", {}, SEATS.rank(rank.get(row))),
       row.id === own && el("span", { class: "you" }, SEATS.you),
     );
@@ -48,7 +49,7 @@ function stepPicture(step, protect, own) {
     el("h4", {}, kindOfSeat(step.name)),
     el("p", {}, `${SEATS.summary(step)} ${step.name === "D" ? "" : SEATS.protections(step.honoured, all)}`),
     fault && el("p", { class: "say bad" }, SEATS.wrong(fault)),
-    grid(step, boxes(step, own)),
+    grid(step, boxes(step, own, all > 0 || step.honoured > 0)),
     step.honoured > 0 && el("p", { class: "hint" }, SEATS.lettersSay),
     hidden > 0 && el("p", {}, SEATS.moreEmpty(hidden)),
     unfilled.filter(([, left]) => left > 0).map((it) => el("p", {}, SEATS.unfilled(...it))),

@@ -324,7 +324,8 @@ export const SEATS = {
   list: (step, seats) => `${kindOfSeat(step)}: ${count(seats, "सीट", "सीटें")}`,
   // a published picture does not show who has a disability
   protectedFor: (trait) => (trait === "D" ? "क्षैतिज आरक्षित सीट" : `${TRAITS[trait]} के लिए आरक्षित (क्षैतिज) सीट`),
-  byMerit: "दूसरी सीट पर",
+  byMerit: "बिना क्षैतिज आरक्षण वाली सीट",
+  candidate: "उम्मीदवार",
   rank: (rank) => `इस लिस्ट में क्रम ${figure(rank)}`,
   you: "यह आप हैं",
   lettersSay: "डिब्बा बताता है कि उम्मीदवार कौन-सी क्षैतिज आरक्षित सीट भरता है। वह यह नहीं बताता कि उम्मीदवार को प्रवेश उसी के कारण मिला।",

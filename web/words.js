@@ -324,7 +324,8 @@ export const SEATS = {
   list: (step, seats) => `${kindOfSeat(step)}: ${count(seats, "seat")}`,
   // a published picture does not show who has a disability
   protectedFor: (trait) => (trait === "D" ? "fills a protected seat" : `fills a seat protected for ${TRAITS[trait]}`),
-  byMerit: "fills another seat",
+  byMerit: "on a seat that is protected for nobody",
+  candidate: "Candidate",
   rank: (rank) => `no. ${figure(rank)} on this list`,
   you: "this is you",
   lettersSay: "A box says which protected seat a candidate fills. It does not say that the candidate was admitted because of it.",
