@@ -605,7 +605,8 @@ export const WHY = {
     `You did not seek this programme in round ${round}, so it was not considered for you.`,
     "That is so after freeze, after slide if the programme is at another institute, and for everyone who has left the season.",
   ],
-  refused: "You were refused here. You were considered for these seats:",
+  refused: "You were refused here.",
+  considered: "You were considered for these seats:",
   noSeats: "there are no such seats.",
   worseNo: (seats) => `${seats === 1 ? "the one seat is" : `all ${figure(seats)} seats are`} taken. Everyone admitted has a better place than yours.`,
   worseYes: (seats) =>
@@ -618,7 +619,8 @@ export const WHY = {
   within: "By its cutoffs this programme would admit you. Something is wrong: show the cutoffs and the reason to the office.",
   whichPlace: "This page does not know which of your places counts at this programme. Compare yours with its published cutoffs:",
   line: ({ step, lines }) => endOf(step, lines),
-  cutoffsAre: "A cutoff means this place or a better one, for one person more. So you can check the refusal by this comparison.",
+  cutoffsAre:
+    "You took part in this round and sought this programme. So it has to admit you if your place is one of the numbers that are for you, or a better one, and only then. Yours is not, so by these numbers it is right that you have no seat here.",
   checked: "What this page finds from the published list:",
   seats: (programme) => `Who has the seats of ${programme}`,
   next: (number) => `Explain the next ${number}`,

@@ -570,7 +570,7 @@ async function explained(who, code) {
   return refusedParts(who, code, why, text);
 }
 
-/** What a refusal says: how far the candidate's place is from the cutoffs, which decide it, and then the office's reasons. */
+/** What a refusal says: that it is one, how far the candidate's place is from the cutoffs, which decide it, and then the office's reasons. */
 async function refusedParts(who, code, why, text) {
   const got = await askCutoffs(who.state.published, code, how(who));
   who.papers.get(code).cutoffs = got.body?.text;
@@ -580,8 +580,9 @@ async function refusedParts(who, code, why, text) {
   const reasons = (withSeats.length ? withSeats : why.steps).map((it) => el("li", {}, el("strong", {}, `${kindOfSeat(it.name)}: `), line(it)));
   const hasD = withSeats.some((it) => it.name === "D");
   return [
+    el("p", {}, el("strong", {}, WHY.refused)),
     ...comparison(who, code, got, withSeats.map((it) => it.name)),
-    ...(reasons.length ? [WHY.refused, el("ul", {}, reasons)] : [WHY.nowhere]),
+    ...(reasons.length ? [WHY.considered, el("ul", {}, reasons)] : [WHY.nowhere]),
     hasD && el("p", {}, el("strong", {}, NOT_DISABILITY)),
     lazyDetails(WHY.seats(seatName(code)), () => seatsOf(who, code, why)),
     details(OWN_WORDS, verbatim(text), got.body?.text ? verbatim(got.body.text) : null),
@@ -602,7 +603,7 @@ function comparison(who, code, got, withSeats) {
     const steps = compared(lines, who.entry, place);
     const shown = steps.filter((it) => it.lines.length || withSeats.includes(it.step));
     const rows = shown.map((it) => el("li", {}, WHY.compare(it)));
-    return [WHY.counts(place.place, listName(list), rankOf(list, place.place)), el("ul", { class: "far" }, rows), el("p", { class: "hint" }, WHY.cutoffsAre), steps.some((it) => it.isWithin) && el("p", { class: "say bad" }, WHY.within)];
+    return [WHY.counts(place.place, listName(list), rankOf(list, place.place)), el("ul", { class: "far" }, rows), steps.some((it) => it.isWithin) ? el("p", { class: "say bad" }, WHY.within) : el("p", {}, WHY.cutoffsAre)];
   } catch {
     return [WHY.noCutoffs];
   }
