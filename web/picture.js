@@ -46,7 +46,7 @@ function stepPicture(step, protect, own) {
   return el(
     "section",
     { class: "box" },
-    el("h4", {}, kindOfSeat(step.name)),
+    el("h4", {}, kindOfSeat(step.name, step.seats)),
     el("p", {}, `${SEATS.summary(step)} ${step.name === "D" ? "" : SEATS.protections(step.honoured, all)}`),
     fault && el("p", { class: "say bad" }, SEATS.wrong(fault)),
     grid(step, boxes(step, own, all > 0 || step.honoured > 0)),

@@ -202,8 +202,8 @@ const STEPS = {
 };
 const stepName = (step) => STEPS[step] ?? `seats (${step})`;
 
-/** The name of a step at the head of a sentence or a field. */
-export const kindOfSeat = (step) => stepName(step).replace(/^[a-z]/, (letter) => letter.toUpperCase());
+/** The name of a step at the head of a sentence or a field, for one seat where `seats` is 1. */
+export const kindOfSeat = (step, seats = 2) => stepName(step).replace(/^[a-z]/, (letter) => letter.toUpperCase()).replace("seats", seats === 1 ? "seat" : "seats");
 
 /** What the letter D means in the office's own words, where they have it in the place of a step. */
 export const NOT_DISABILITY = "A de-reserved seat is one that a category left empty. The office's own words call it D, which has nothing to do with disability there.";
@@ -321,7 +321,7 @@ export const SEATS = {
         : `${figure(honoured)} of ${count(all, "protected seat")} ${all === 1 ? "is" : "are"} filled.`,
   unfilled: (trait, left, all) =>
     `${all === 1 ? "The seat" : `${left} of ${count(all, "seat")}`} protected for ${TRAITS[trait]} ${left === 1 ? "is" : "are"} not filled, because the candidates considered cannot fill more protected seats in all. ${left === 1 ? "It counts as an ordinary seat" : "They count as ordinary seats"}.`,
-  list: (step, seats) => `${kindOfSeat(step)}: ${count(seats, "seat")}`,
+  list: (step, seats) => `${kindOfSeat(step, seats)}: ${count(seats, "seat")}`,
   // a published picture does not show who has a disability
   protectedFor: (trait) => (trait === "D" ? "fills a protected seat" : `fills a seat protected for ${TRAITS[trait]}`),
   byMerit: "on a seat that is protected for nobody",
@@ -350,14 +350,17 @@ export const LIST_FAULTS = {
   bymerit: (it) => `candidate ${it.id} has a worse place than yours and fills no protected seat.`,
   sametrait: (it) => `candidate ${it.id} has a worse place than yours and fills a protected seat that you could fill too.`,
 };
+
+const admittedAll = (seats) => (seats === 1 ? "the candidate admitted has" : "everyone admitted has");
 export const SETTLED = {
   right: "the refusal is right, because ",
   wrong: "something is wrong: ",
   open: "the list alone does not settle it: ",
   by: {
-    notrait: "no protected seat here is for what you hold, and everyone admitted has a better place.",
-    allfilled: "by its letters every protected seat is filled, and everyone admitted has a better place.",
-    sheet: "the cutoff settles it, or the sheet of the step, which says what the admitted candidates hold.",
+    notrait: (seats) => `no protected seat here is for what you hold, and ${admittedAll(seats)} a better place.`,
+    traitless: (seats) => `you hold no trait, and ${admittedAll(seats)} a better place.`,
+    allfilled: (seats) => `by its letters every protected seat is filled, and ${admittedAll(seats)} a better place.`,
+    sheet: () => "the cutoff settles it, or the sheet of the step, which says what the admitted candidates hold.",
   },
 };
 
@@ -608,7 +611,8 @@ export const WHY = {
   refused: "You were refused here.",
   considered: "You were considered for these seats:",
   noSeats: "there are no such seats.",
-  worseNo: (seats) => `${seats === 1 ? "the one seat is" : `all ${figure(seats)} seats are`} taken. Everyone admitted has a better place than yours.`,
+  worseNo: (seats) =>
+    seats === 1 ? "the one seat is taken. The candidate admitted has a better place than yours." : `all ${figure(seats)} seats are taken. Everyone admitted has a better place than yours.`,
   worseYes: (seats) =>
     `${seats === 1 ? "the one seat is" : `all ${figure(seats)} seats are`} taken. Someone with a worse place than yours is admitted. With you in the place of any such candidate, fewer protected seats would be filled.`,
   nowhere: "No kind of seat here was open to you.",

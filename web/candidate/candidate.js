@@ -577,7 +577,7 @@ async function refusedParts(who, code, why, text) {
   const line = (it) => (it.seats === 0 ? WHY.noSeats : it.worse ? WHY.worseYes(it.seats) : WHY.worseNo(it.seats));
   // kinds of seats that the programme does not have are in the office's own words alone, unless there is no other
   const withSeats = why.steps.filter((it) => it.seats > 0);
-  const reasons = (withSeats.length ? withSeats : why.steps).map((it) => el("li", {}, el("strong", {}, `${kindOfSeat(it.name)}: `), line(it)));
+  const reasons = (withSeats.length ? withSeats : why.steps).map((it) => el("li", {}, el("strong", {}, `${kindOfSeat(it.name, it.seats)}: `), line(it)));
   const hasD = withSeats.some((it) => it.name === "D");
   return [
     el("p", {}, el("strong", {}, WHY.refused)),
@@ -624,9 +624,10 @@ async function seatsOf(who, code, why) {
 }
 
 /** What the list of a programme settles for this candidate at one step. */
-function found(who, list, programme, { name, worse }) {
+function found(who, list, programme, { name, seats, worse }) {
   const { verdict, by } = settledByList(list.steps.find((it) => it.name === name), programme.steps[name]?.protect ?? {}, who.entry.traits, worse);
-  return [el("strong", {}, `${kindOfSeat(name)}: `), SETTLED[verdict], SETTLED.by[by.key] ?? LIST_FAULTS[by.key](by)];
+  const key = by.key === "notrait" && who.entry.traits === "" ? "traitless" : by.key;
+  return [el("strong", {}, `${kindOfSeat(name, seats)}: `), SETTLED[verdict], SETTLED.by[key]?.(seats) ?? LIST_FAULTS[key](by)];
 }
 
 async function letter() {
