@@ -33,7 +33,7 @@ export const LABELS = {
   anybodyIntro: "Anyone may read who has which seat, see the cutoffs, and check a refusal. You need no token.",
   stateTitle: "How far the season is",
   likeTitle: "Which programmes are within my reach?",
-  likeIntro: "Fill in what the register has of you. The page compares it with the published cutoffs of a round on this computer, and sends it to nobody.",
+  likeIntro: "Fill in what the register has of you. The page compares it with the published cutoffs of a round on this device, and sends it to nobody.",
   category: "Category",
   holds: "What you hold",
   places: "Your places in the merit lists",
@@ -59,7 +59,7 @@ export const LABELS = {
   checkIntro: "This check is for the clerk and for courts, because a sheet names all candidates and what they hold. A refusal is right if and only if the answer to both questions is no:",
   question1: "Do the protected seats need the candidate?",
   question2: "If not, is a free seat left for the candidate?",
-  checkSheet: "To answer them, this page needs the sheet of the step: its seats, its protected seats, and all its candidates in merit order. The page works on this computer and sends the sheet to nobody.",
+  checkSheet: "To answer them, this page needs the sheet of the step: its seats, its protected seats, and all its candidates in merit order. The page works on this device and sends the sheet to nobody.",
   sheet: "Sheet of the step",
   sheetHint: "The first line is “step sheet 1”.",
   answerQuestions: "Answer the two questions",
@@ -72,8 +72,8 @@ export const LABELS = {
   numberHint: "the number in the board's letter, not your application number",
   token: "Your token",
   tokenForm: "letters and digits, in groups of four if you like; capital and small letters differ",
-  tokenHint: "You stay signed in on all pages of the office in this tab, until you sign out, close the tab, or nobody touches it for 15 minutes. The token is only in memory, and nothing of it is stored on this computer.",
-  clerkTokenHint: "The token is only in the memory of this page, and nothing of it is stored on this computer. The page forgets it when you leave the page or sign out.",
+  tokenHint: "You stay signed in on all pages of the office in this tab, until you sign out, close the tab, or nobody touches it for 15 minutes. The token is only in memory, and nothing of it is stored on this device.",
+  clerkTokenHint: "The token is only in the memory of this page, and nothing of it is stored on this device. The page forgets it when you leave the page or sign out.",
   showToken: "Show token",
   signIn: "Show my seat",
   signOut: "Sign out",
@@ -120,7 +120,7 @@ export const FAULTS = {
 export const NO = "No, go back";
 export const SHOW_TOKEN = LABELS.showToken;
 export const HIDE_TOKEN = "Hide token";
-export const TYPED = (signs, groups) => `${count(signs, "sign")} typed${groups ? `: ${groups}` : ""}`;
+export const TYPED = (signs, groups) => `${count(signs, "character")} typed${groups ? `: ${groups}` : ""}`;
 export const SWITCH = {
   title: "Leave this page?",
   lines: ["The other page does not know your token. You have to sign in again afterwards."],
@@ -581,7 +581,7 @@ export const ANSWER = {
   cameEnd: (seat) => `The final admissions came while you answered. ${seat ? `You are admitted to ${seat}.` : "You have no seat."}`,
   save: "Save the receipt",
   print: "Print",
-  file: (receipt, seat, origin, time) => `${receipt}\n\n${seat}\noffice ${origin}\nclock of this computer ${time}\n`,
+  file: (receipt, seat, origin, time) => `${receipt}\n\n${seat}\noffice ${origin}\nclock of this device ${time}\n`,
   fileName: ({ cand, window, turn }) => `receipt-${cand}-window-${window}-turn-${turn}.txt`,
 };
 
