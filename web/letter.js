@@ -29,7 +29,7 @@ function rowsOf({ cand, application, seat, entry, answers, end }, standing, help
     [fields.kind, kindOfSeat(seat.step)],
     [fields.category, CATEGORIES[entry.category] ?? entry.category],
     [fields.traits, [...entry.traits].map((it) => HOLDS[it] ?? it).join(", ") || HOLDS_NOTHING],
-    [fields.place(programme && listName(programme.list)), place && ENTRY.place(place.place, place.isCommon, rankOf(programme.list, place.place))],
+    [fields.place(programme && listName(programme.list)), place && ENTRY.place(place.place, place.isCommon, rankOf(programme.list, place.place), entry.category)],
     [fields.round, seat.round],
     [fields.standing, standing],
     [fields.end, end && LETTER.time(end)],

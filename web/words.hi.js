@@ -3,6 +3,8 @@
 // 2,50,000 और 250,000 नहीं, जैसा उम्मीदवार लिखते हैं
 const figure = (number) => number.toLocaleString("en-IN");
 const count = (number, one, many = one) => `${figure(number)} ${number === 1 ? one : many}`;
+const NTH = ["", "पहली", "दूसरी", "तीसरी", "चौथी", "5वीं", "छठी"];
+const nth = (number) => NTH[number] ?? `${figure(number)}वीं`;
 const listed = (words, last = "और") => (words.length < 2 ? words.join("") : `${words.slice(0, -1).join(", ")} ${last} ${words.at(-1)}`);
 
 /** The fixed texts of the pages. */
@@ -429,9 +431,11 @@ export const ENTRY = {
     "रजिस्टर का विवरण, आपकी चॉइस लिस्ट, आपके जवाब और आपकी रसीदें केवल आपके और क्लर्क के लिए हैं। काउंसलिंग जाँचने वाली अदालत को भी वे मिलते हैं।",
     "कार्यालय नाम, अंक या पते नहीं जानता।",
   ],
-  fields: { category: "वर्ग", traits: "विशेष श्रेणी", place: (list) => `${list} में रैंक` },
+  fields: { category: "वर्ग", traits: "आपकी विशेष श्रेणियाँ", place: (list) => `${list} में रैंक` },
   list: (number) => `मेरिट लिस्ट ${number}`,
-  place: (place, isCommon, rank) => `${figure(place)}${rank ? ` (${rank})` : ""}, ${isCommon ? "बिना छूट वाली रैंक: ओपन सीटों के लिए भी गिनी जाती है" : "छूट वाली रैंक: केवल आपके वर्ग की सीटों के लिए"}`,
+  // the category GEN has no seats of its own
+  place: (place, isCommon, rank, category) =>
+    `${figure(place)}${rank ? ` (${rank})` : ""}, ${isCommon ? `बिना छूट वाली रैंक: ओपन सीटों के लिए${category === "GEN" ? "" : " और आपके वर्ग की सीटों के लिए"} गिनी जाती है` : "छूट वाली रैंक: केवल आपके वर्ग की सीटों के लिए"}`,
   nowhere: "किसी मेरिट लिस्ट में आपकी रैंक नहीं है।",
 };
 
@@ -469,8 +473,8 @@ export const STATE = {
     withdrawn: ({ hasSpecial }) => [hasSpecial ? SEAT.noSpecial : SEAT.special],
     noshow: ({ hasSpecial }) => [hasSpecial ? SEAT.noSpecial : SEAT.special],
   },
-  moved: (from, to) => `आप ऊपर गए हैं: पसंद ${from} से पसंद ${to} पर।`,
-  first: (to) => `यह आपकी पसंद ${to} है।`,
+  moved: (from, to) => `आप ऊपर गए हैं: ${nth(from)} पसंद से ${nth(to)} पसंद पर।`,
+  first: (to) => `यह आपकी ${nth(to)} पसंद है।`,
 };
 
 export const CHOICES = {
@@ -532,8 +536,8 @@ export const STANDINGS = {
 export const SEAT = {
   fields: { candidate: "उम्मीदवार", application: "आवेदन नंबर", seat: "सीट", final: "अंतिम प्रवेश", special: "विशेष राउंड की सीट", institute: "संस्थान", kind: "सीट का प्रकार", choice: "आपकी लिस्ट में", before: "पिछले राउंड में", place: (list) => `${list} में आपकी रैंक`, round: "राउंड", standing: "स्थिति" },
   none: "नहीं है",
-  choice: (at) => `पसंद ${at}`,
-  before: (at, seat) => `पसंद ${at}: ${seat}`,
+  choice: (at) => `आपकी ${nth(at)} पसंद`,
+  before: (at, seat) => `आपकी ${nth(at)} पसंद: ${seat}`,
   final: "यह प्रवेश अंतिम है।",
   noAdmission: "सभी राउंड हो गए और आपको प्रवेश नहीं मिला।",
   special: "अगर बोर्ड खाली सीटों के लिए विशेष राउंड करे, तो आप उसके लिए नई लिस्ट दे सकते हैं।",

@@ -4,6 +4,8 @@
 // 2,50,000 and not 250,000, as candidates write it
 const figure = (number) => number.toLocaleString("en-IN");
 const count = (number, one, many = `${one}s`) => `${figure(number)} ${number === 1 ? one : many}`;
+// `1st`, `22nd`, `113th`
+const nth = (number) => `${figure(number)}${[11, 12, 13].includes(number % 100) ? "th" : (["th", "st", "nd", "rd"][number % 10] ?? "th")}`;
 const listed = (words, last = "and") => (words.length < 2 ? words.join("") : `${words.slice(0, -1).join(", ")} ${last} ${words.at(-1)}`);
 
 /** The fixed texts of the pages, by the names that the pages use in `data-word` and `data-label`. web/build puts them into the pages. */
@@ -35,7 +37,7 @@ export const LABELS = {
   likeTitle: "Which programmes are within my reach?",
   likeIntro: "Fill in what the register has of you. The page compares it with the published cutoffs of a round on this device, and sends it to nobody.",
   category: "Category",
-  holds: "What you hold",
+  holds: "Your traits",
   places: "Your places in the merit lists",
   placesHint: "Leave a list empty if you have no place in it. Write a relaxed place with an R, such as 40R.",
   list1: "List 1",
@@ -435,9 +437,11 @@ export const ENTRY = {
     "Your entry, your choice list, your answers and your receipts are for you and for the clerk. A court that checks the season gets them too.",
     "The office knows no names, marks or addresses.",
   ],
-  fields: { category: "Category", traits: "You hold", place: (list) => `Place in ${list}` },
+  fields: { category: "Category", traits: "Your traits", place: (list) => `Place in ${list}` },
   list: (number) => `merit list ${number}`,
-  place: (place, isCommon, rank) => `${figure(place)}${rank ? ` (${rank})` : ""}, ${isCommon ? "a common place: it counts for open seats too" : "a relaxed place: it counts for the seats of your category alone"}`,
+  // the category GEN has no seats of its own
+  place: (place, isCommon, rank, category) =>
+    `${figure(place)}${rank ? ` (${rank})` : ""}, ${isCommon ? `a common place: it counts for open seats${category === "GEN" ? "" : " and for your category's"}` : "a relaxed place: it counts for the seats of your category alone"}`,
   nowhere: "You have no place in any merit list.",
 };
 
@@ -475,8 +479,8 @@ export const STATE = {
     withdrawn: ({ hasSpecial }) => [hasSpecial ? SEAT.noSpecial : SEAT.special],
     noshow: ({ hasSpecial }) => [hasSpecial ? SEAT.noSpecial : SEAT.special],
   },
-  moved: (from, to) => `You moved up: from your choice ${from} to your choice ${to}.`,
-  first: (to) => `It is your choice ${to}.`,
+  moved: (from, to) => `You moved up: from your ${nth(from)} choice to your ${nth(to)} choice.`,
+  first: (to) => `It is your ${nth(to)} choice.`,
 };
 
 export const CHOICES = {
@@ -538,8 +542,8 @@ export const STANDINGS = {
 export const SEAT = {
   fields: { candidate: "Candidate", application: "Application number", seat: "Seat", final: "Final admission", special: "Seat by the special round", institute: "Institute", kind: "Kind of seat", choice: "On your list", before: "In the round before", place: (list) => `Your place in ${list}`, round: "Round", standing: "Status" },
   none: "none",
-  choice: (at) => `choice ${at}`,
-  before: (at, seat) => `choice ${at}: ${seat}`,
+  choice: (at) => `your ${nth(at)} choice`,
+  before: (at, seat) => `your ${nth(at)} choice: ${seat}`,
   final: "This admission is final.",
   noAdmission: "The rounds ended without an admission for you.",
   special: "If the board holds a special round for vacant seats, you may hand in a new list for it.",

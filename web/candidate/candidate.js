@@ -317,7 +317,7 @@ function showSeat(who) {
     rows.push([SEAT.fields.kind, kindOfSeat(seat.step)]);
     if (at) rows.push([SEAT.fields.choice, SEAT.choice(at)]);
     if (who.move) rows.push([SEAT.fields.before, SEAT.before(who.move.from, seatName(who.move.held))]);
-    if (place) rows.push([SEAT.fields.place(listName(list)), ENTRY.place(place.place, place.isCommon, rankOf(list, place.place))]);
+    if (place) rows.push([SEAT.fields.place(listName(list)), ENTRY.place(place.place, place.isCommon, rankOf(list, place.place), entry.category)]);
     if (seat.round) rows.push([SEAT.fields.round, seat.round]);
   } else rows.push([field, SEAT.none]);
   rows.push([SEAT.fields.standing, standing(who)]);
@@ -342,7 +342,7 @@ function showEntry(who) {
   const { entry, state } = who;
   const isEarly = state.published === 0;
   const places = entry.places.map((it, at) => [at + 1, readPlace(it)]).filter(([, it]) => it);
-  const rows = [[ENTRY.fields.category, CATEGORIES[entry.category] ?? entry.category], [ENTRY.fields.traits, heldWords(entry.traits)], ...places.map(([list, it]) => [ENTRY.fields.place(listName(list)), ENTRY.place(it.place, it.isCommon, rankOf(list, it.place))])];
+  const rows = [[ENTRY.fields.category, CATEGORIES[entry.category] ?? entry.category], [ENTRY.fields.traits, heldWords(entry.traits)], ...places.map(([list, it]) => [ENTRY.fields.place(listName(list)), ENTRY.place(it.place, it.isCommon, rankOf(list, it.place), entry.category)])];
   const parts = [facts(rows), places.length === 0 && ENTRY.nowhere, details(OWN_WORDS, verbatim(lineOf(entry))), details(ENTRY.seen, ...paragraphs(ENTRY.public))].filter(Boolean).map((it) => (typeof it === "string" ? el("p", {}, it) : it));
   if (isEarly) show($("entry"), el("p", { class: "say" }, ENTRY.check), ...parts);
   else if (!$("entry").querySelector("details[open]")) show($("entry"), ENTRY.later, details(ENTRY.open, ...parts));
