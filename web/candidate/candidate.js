@@ -433,6 +433,7 @@ async function send(who, body) {
   if (got.body?.reply === "noted") {
     who.receipt = got.body;
     say(out, "good", ...receiptParts(who, got.body));
+    showTitle({ ...who, seat: seatAfter(who.seat, body.choice) });
   } else if (got.passing) say(out, "bad", trouble(got), ANSWER.unknown, sameAgain);
   else say(out, "bad", trouble(got), [5, 8].includes(got.body?.refused) && ANSWER.other, ownWords(got));
   out.focus();
@@ -440,6 +441,9 @@ async function send(who, body) {
   if (got.body?.refused === LATE) say(out, "bad", came(who), trouble(got), ownWords(got));
   out.focus();
 }
+
+/** Returns how a seat is after an answer that the office took: the heading says so together with the receipt, before the office is asked again. */
+const seatAfter = (seat, choice) => (choice === "withdraw" ? { ...seat, programme: null, step: null, standing: "withdrawn" } : { ...seat, standing: choice });
 
 /** What came while somebody answered too late. */
 function came(who) {
