@@ -153,12 +153,14 @@ export function emptyToken(field, press) {
 
 const spaced = (text) => text.trim().replace(/\s+/g, " ").toLowerCase();
 
-/** Makes paragraphs of sentences, and a list of those that are in an array. A long list ends with how many more there are. */
+/** Makes paragraphs of sentences, and a list of the programmes that are in an array, each with its number on the choice list. A long list ends with how
+ * many more there are. */
 export const paragraphs = (lines, most = 6) =>
   lines.filter(Boolean).map((it) => {
     if (!Array.isArray(it)) return typeof it === "string" ? el("p", {}, it) : it;
-    const some = it.length > most ? [...it.slice(0, most - 1), ANSWER.more(it.length - most + 1)] : it;
-    return el("ul", {}, some.map((one) => el("li", {}, one)));
+    const some = it.length > most ? it.slice(0, most - 1) : it;
+    const more = some.length < it.length && el("li", { class: "more" }, ANSWER.more(it.length - some.length));
+    return el("ol", {}, some.map(({ at, name }) => el("li", { value: at }, name)), more);
   });
 
 /** Asks whether to go on, and returns the answer. The first button is No, so that Enter and Escape mean No also from the box. With `type` the button Yes opens
@@ -185,6 +187,8 @@ export function confirmed({ title, lines, yes, grave = false, type = null, tick 
   document.body.append(ask);
   ask.returnValue = "no";
   ask.showModal();
+  // the focus is at the buttons, and a long question begins at its top all the same
+  ask.scrollTop = 0;
   mark(-1);
   return new Promise((then) => {
     ask.addEventListener("close", () => {

@@ -369,7 +369,8 @@ function aboutAnswers(who) {
   const higher = seat.programme ? choices.programmes.slice(0, choices.programmes.indexOf(seat.programme)) : [];
   const institute = instituteOf(seat.programme);
   const same = institute ? higher.filter((code) => instituteOf(code) === institute) : null;
-  return { seat: seat.programme && seatName(seat.programme), isLast: isLast(who), isSame: isLast(who) || hasFirst(who), higher: higher.map(seatName), same: same?.map(seatName) };
+  const listed = (code) => ({ at: choices.programmes.indexOf(code) + 1, name: seatName(code) });
+  return { seat: seat.programme && seatName(seat.programme), isLast: isLast(who), isSame: isLast(who) || hasFirst(who), higher: higher.map(listed), same: same?.map(listed) };
 }
 
 /** Shows the answers that the office takes now: one line each, what each means folded, and a withdrawal folded behind them. */
