@@ -33,6 +33,8 @@ export const LABELS = {
   anybodyHead: "Lists and checks - Seat allocation office",
   anybodyTitle: "Lists and checks",
   anybodyIntro: "Anyone may read who has which seat, see the cutoffs, and check a refusal. You need no token.",
+  haveLetter: "Do you have a letter from the board?",
+  seeSeat: "See your seat",
   stateTitle: "How far the season is",
   likeTitle: "Which programmes are within my reach?",
   likeIntro: "Fill in what the register has of you. The page compares it with the published cutoffs of a round on this device, and sends it to nobody.",
