@@ -79,6 +79,18 @@ let help = null;
 /** Fetches once whom the board names for questions: a text, which may be in Hindi too, and an address. */
 const helpComes = () => (help ??= jsonPaper("help.json"));
 
+// a number to call, in groups as people write it
+const PHONE = /\+?[0-9][0-9 ()-]{5,18}[0-9]/;
+
+/** Returns the elements of a text, whose numbers to call do not break over lines. A text that is a number alone is a link that calls it. */
+function phoned(text) {
+  const found = PHONE.exec(text);
+  if (!found) return [text];
+  const [number] = found;
+  if (number === text) return [el("a", { class: "phone", href: `tel:${number.replace(/[^+0-9]/g, "")}` }, number)];
+  return [text.slice(0, found.index), el("span", { class: "phone" }, number), ...phoned(text.slice(found.index + number.length))].filter(Boolean);
+}
+
 // an address that a browser may open: a page, a mail or a call
 const isAddress = (text) => /^(?:https:\/\/|mailto:|tel:)[^\s]+$/.test(text ?? "");
 
@@ -89,7 +101,7 @@ export async function contact() {
   const address = isAddress(found?.url) ? found.url : null;
   if (!text && !address) return null;
   const shown = address?.replace(/^(?:mailto:|tel:)/, "");
-  return { text: [text, shown].filter(Boolean).join(" "), parts: [text, text && address && " ", address && el("a", { href: address }, shown)].filter(Boolean) };
+  return { text: [text, shown].filter(Boolean).join(" "), parts: [...phoned(text ?? ""), text && address && " ", address && el("a", { href: address, class: address.startsWith("tel:") ? "phone" : null }, shown)].filter(Boolean) };
 }
 
 /** Shows whom to ask, after a sentence; or another sentence where the board has not published it. */
