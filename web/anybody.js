@@ -2,6 +2,7 @@
 import { askList, askRound, askState, hasPaper } from "./ask.js";
 import { $, busy, clear, details, dropLinks, el, onPress, onSend, ownWords, ready, saveLink, say, table, textBox, valueOf, verbatim } from "./dom.js";
 import { fillLike, nameLists, showCutoffs, showLike } from "./finder.js";
+import { isLikeApplication } from "./numbers.js";
 import { listPicture } from "./picture.js";
 import { isCandidate, isCode, lineOf, readList, readRound, readSheet, readSpecial, twoQuestions, Unreadable } from "./rule.js";
 import { announcedEnd, instituteName, instituteOf, lookAgain, papersCome, programmeName, programmeOf, showContact, showEnd, showNotice, showState } from "./season.js";
@@ -87,7 +88,7 @@ async function showRound() {
   say(said, "plain");
   const chosen = $("round").value;
   if (!chosen) return say(said, "bad", FAULTS.round);
-  const wanted = $("find").value.trim() === "" ? "" : valueOf($("find"), isCandidate, "candidate");
+  const wanted = $("find").value.trim() === "" ? "" : valueOf($("find"), isCandidate, (text) => (isLikeApplication(text) ? "lookup" : "candidate"));
   if (wanted === null) return;
   say(said, "plain", ASKING);
   const isPaper = [MOCK, SPECIAL].includes(chosen);

@@ -110,6 +110,7 @@ export const LABELS = {
 export const FAULTS = {
   candidate: "A candidate number has 1 to 9 digits and does not begin with 0. It is in the board's letter.",
   application: "This looks like an application number. Sign in with the candidate number, which is in the board's letter too.",
+  lookup: "This looks like an application number, and the lists have the board's shorter candidate numbers. To see your own seat, sign in as a candidate.",
   either: "Type your application number, or the candidate number that is in the board's letter.",
   pair: "No candidate has this application number with this token. Compare both sign by sign: 0 and o, 1 and l, capital and small letters.",
   token: "A token has 8 to 32 letters and digits.",

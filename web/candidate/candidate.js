@@ -3,7 +3,7 @@ import { ask, askCutoffs, askList, paper, serverTime } from "../ask.js";
 import { bySteps, compared, readCutoffs, readPlace } from "../cutoffs.js";
 import { $, askBeforeLeaving, button, canBeShown, clear, closeQuestions, confirmed, countSigns, details, dropLinks, el, emptyToken, lazyDetails, onPress, onSend, ownWords, paragraphs, ready, saveLink, say, sayFault, show, table, ungrouped, valuesOf, verbatim } from "../dom.js";
 import { printLetter } from "../letter.js";
-import { bare, candidateOf, numbersPaper } from "../numbers.js";
+import { bare, candidateOf, isLikeApplication, numbersPaper } from "../numbers.js";
 import { listPicture } from "../picture.js";
 import { CHOICES as ALL_CHOICES, grouped, heldBefore, isCandidate, isToken, lineOf, MOST_TURNS, moved, openNow, readList, readSpecial, readWhy, receiptsOf, settledByList, situation } from "../rule.js";
 import { announcedEnd, endPaper, instituteName, instituteOf, listName, lookAgain, papersCome, programmeOf, rankOf, seatName, showContact, showEnd, showNotice } from "../season.js";
@@ -44,8 +44,7 @@ class NoAnswer extends Error {
 
 // ---- signing in and out
 
-// what boards give to people who apply has more digits, or letters
-const faultOfNumber = (text) => (/^[A-Z]*[0-9]{6,}[A-Z0-9]*$/.test(bare(text)) && !/^[0-9]{1,9}$/.test(text) ? "application" : "candidate");
+const faultOfNumber = (text) => (isLikeApplication(text) ? "application" : "candidate");
 const faultOfToken = (text) => (/^[A-Za-z0-9]*$/.test(text) ? "token" : "signs");
 
 async function signIn() {
