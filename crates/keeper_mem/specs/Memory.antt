@@ -30,4 +30,4 @@ fresh_keeper tables fail_at = record { memory = record { tables = tables; spare 
 
 -- the keeper as it is seen
 abbrev pub keeper_view_of : FailingMemory → KeeperView
-keeper_view_of k = record { tables = k.memory.tables; faults = k.faults; holds_room = true; spare = k.memory.spare }
+keeper_view_of k = record { tables = k.memory.tables; kept = k.memory.tables; settled = true; faults = k.faults; holds_room = true; spare = k.memory.spare }

@@ -1,13 +1,14 @@
 // A keeper in memory that fails at chosen calls.
-ghost use Rattle.std.specs.Prelude.{◌≡◌, ◌≤◌, ◌-◌, ◌↔◌, ℕ, Bool, true, false, List, OnOk, OnErr, IsErrOf, IfOk, IsTrue, MatchOption, Contains};
+ghost use Rattle.std.specs.Prelude.{◌≡◌, ◌≤◌, ◌-◌, ◌↔◌, ℕ, Bool, true, false, List, length, OnOk, OnErr, IsErrOf, IfOk, IsTrue, MatchOption, Contains};
 ghost use Rattle.office_base.specs.Memory.{counted};
 ghost use Rattle.office_base.specs.Outside.{Rose};
+ghost use Rattle.keeper_mem.specs.Batch.{with_all};
 ghost use Rattle.keeper_mem.specs.Keeper.{IsLook, IsPut, TakesRoom};
 ghost use Rattle.keeper_mem.specs.Memory.{fresh_keeper, keeper_view_of};
 ghost use Rattle.kept_rows.specs.Tables.{NoSeason, Records, with_season, with_answer, with_raise, with_cut, AreTold, IsFound, IsLoaded};
 
 use crate::memory::Memory;
-use crate::{KeepFault, Keeper, Teller};
+use crate::{Batch, KeepFault, Keeper, Put, Teller};
 use kept_rows::{AllotRow, AnswerRow, Kept, RaiseRow};
 use office_base::{OutOfMemory, fails_at};
 use std::alloc::Global;
@@ -197,6 +198,44 @@ impl Keeper for MemKeeper {
         self.begin_call()?;
         Ok(self.memory.load(alloc)?)
     }
+
+    fn is_settled(&self) -> bool {
+        true
+    }
+
+    fn settle(&mut self) -> Result<(), KeepFault>
+        ensures look { IsLook (keeper_view_of self.old) (keeper_view_of self.new) result }
+        // it fails if and only if its number is in the list
+        ensures fails { IsErrOf result KeepFault.Failed
+            ↔ Contains self.old.fail_at (counted self.old.calls) }
+        ensures calls { self.new.calls ≡ counted self.old.calls }
+        ensures told_to { self.new.fail_at ≡ self.old.fail_at }
+        ensures by_one { IsErrOf result KeepFault.Failed
+            → self.new.faults ≡ counted self.old.faults }
+    {
+        self.begin_call()
+    }
+}
+
+impl Batch for MemKeeper {
+    fn put_all(&mut self, rows: &[Put]) -> Result<(), KeepFault>
+        requires { IsFound true self.old.memory.tables }
+        ensures put { IsPut (with_all rows.now) (length rows.now) (keeper_view_of self.old)
+            (keeper_view_of self.new) result }
+        // it fails if and only if its number is in the list
+        ensures fails { IsErrOf result KeepFault.Failed
+            ↔ Contains self.old.fail_at (counted self.old.calls) }
+        ensures calls { self.new.calls ≡ counted self.old.calls }
+        ensures told_to { self.new.fail_at ≡ self.old.fail_at }
+        ensures by_one { IsErrOf result KeepFault.Failed
+            → self.new.faults ≡ counted self.old.faults }
+    {
+        self.begin_call()?;
+        self.memory.put_all(rows)?;
+        Ok(())
+    }
+
+    fn keeps_at_once(&self) {}
 }
 
 impl Teller for MemKeeper {

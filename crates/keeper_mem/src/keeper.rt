@@ -1,5 +1,5 @@
 // What the office asks of a keeper of records.
-ghost use Rattle.std.specs.Prelude.{◌≡◌, true, false, IfOk, IsErrOf, MatchOption};
+ghost use Rattle.std.specs.Prelude.{◌≡◌, true, false, IfOk, OnOk, IsErrOf, IsTrue, MatchOption};
 ghost use Rattle.keeper_mem.specs.declared.keeper.KeepFault.TheVariants.{OutOfMemory as NoMemory};
 
 use kept_rows::{AllotRow, AnswerRow, Kept, RaiseRow};
@@ -25,11 +25,15 @@ impl From<OutOfMemory> for KeepFault {
 
 /// Keeps the records of one season. An `Err` leaves the tables unchanged,
 /// and no fewer answers can be put without allocating.
+///
+/// A keeper may let the rows of answers and raises wait, and keep many of them at once when it is settled:
+/// what waits is among its tables, and a crash may take it back.
 pub trait Keeper {
     ghost use Rattle.keeper_mem.specs.Keeper.{KeeperView, IsLook, IsPut, TakesRoom};
     ghost use Rattle.kept_rows.specs.Tables.{with_season, with_answer, with_raise, with_cut, IsFound, IsLoaded};
 
-    /// What a proof sees of it: its tables, if they are visible, how often it has failed, and its room for answers.
+    /// What a proof sees of it: its tables, if they are visible, and those of them that a crash does not take back,
+    /// how often it has failed, and its room for answers.
     ghost seen: { Self → KeeperView };
 
     /// Returns whether a season is kept, by the tables as this call leaves them. The call may hide the tables.
@@ -66,6 +70,17 @@ pub trait Keeper {
     fn load(&mut self, alloc: Global) -> Result<Option<Kept>, KeepFault>
         ensures ok { IfOk result (λ found. MatchOption found
             (IsFound false (seen self.new).tables) (IsLoaded (seen self.new).tables)) }
+        ensures look { IsLook (seen self.old) (seen self.new) result };
+
+    /// Returns whether no row waits to be kept. All tables are kept then.
+    fn is_settled(&self) -> bool
+        ensures is { result ≡ (seen self.now).settled }
+        ensures all { IsTrue result → (seen self.now).kept ≡ (seen self.now).tables };
+
+    /// Keeps the rows that wait, all at once, so that a crash does not take them back.
+    /// After an `Err` they wait as before, and whether a crash takes them back is open.
+    fn settle(&mut self) -> Result<(), KeepFault>
+        ensures settled { OnOk result ((seen self.new).settled ≡ true) }
         ensures look { IsLook (seen self.old) (seen self.new) result };
 }
 

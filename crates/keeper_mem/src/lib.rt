@@ -6,11 +6,13 @@
 // `kept_rows`, and handed on. No function here knows what a row means.
 #![tactic(auto)]
 
+mod batch;
 mod failing;
 mod keeper;
 mod memory;
 mod sure;
 
+pub use batch::{Batch, Put};
 pub use failing::MemKeeper;
 pub use keeper::{KeepFault, Keeper, Teller};
 pub use kept_rows::{AllotRow, AllotRows, AnswerRow, AnswerRows, Kept, RaiseRow, RaiseRows};

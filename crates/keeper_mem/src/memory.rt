@@ -1,7 +1,11 @@
 // The tables in memory, which both keepers in memory hold.
-ghost use Rattle.std.specs.Prelude.{◌≡◌, ◌≤◌, ◌-◌, ◌+◌, ℕ, Bool, true, false, List, OnOk, OnErr, IfOk, IsTrue, MatchOption};
+ghost use Rattle.std.specs.Prelude.{◌≡◌, ◌≤◌, ◌<◌, ◌-◌, ◌+◌, ℕ, Bool, true, false, List, Some, OnOk, OnErr, IfOk, IsTrue, MatchOption, length, vec_len, vec_capacity};
+ghost use Rattle.kept_rows.specs.declared.rows.AllotRow.{AllotRow as Seat};
+ghost use Rattle.keeper_mem.specs.Batch.{with_all, with_put};
+ghost use Rattle.keeper_mem.specs.Memory.{tables_of};
 ghost use Rattle.kept_rows.specs.Tables.{Tables, NoSeason, Records, with_season, with_answer, with_raise, with_cut, IsFound, IsLoaded, IsTold};
 
+use crate::Put;
 use kept_rows::{AllotRow, AnswerRow, Kept, RaiseRow};
 use office_base::{Listed, OutOfMemory, Text};
 use std::alloc::Global;
@@ -127,6 +131,20 @@ impl Memory {
         Ok(())
     }
 
+    /// Puts rows after the others, in their order: all of them or none.
+    pub fn put_all(&mut self, rows: &[Put]) -> Result<(), OutOfMemory>
+        requires { IsFound true self.old.tables }
+        ensures tables { OnOk result (self.new.tables ≡ with_all rows.now self.old.tables) }
+        ensures spare { OnOk result (self.new.spare ≡ self.old.spare - length rows.now) }
+        ensures err { OnErr result (self.new ≡ self.old) }
+    {
+        self.answers.reserve(rows.len())?;
+        self.raises.reserve(rows.len())?;
+        self.spare = self.spare.saturating_sub(rows.len());
+        push_all(&mut self.answers, &mut self.raises, rows);
+        Ok(())
+    }
+
     /// Puts published seats after the others and adds one to the cuts.
     pub fn put_cut(&mut self, rows: &[AllotRow]) -> Result<(), OutOfMemory>
         requires { IsFound true self.old.tables }
@@ -157,5 +175,38 @@ impl Memory {
             allots: Listed::from_vec(Vec::from_slice(alloc, &self.allots)?),
             cuts: self.cuts,
         }))
+    }
+}
+
+/// Puts rows after the others, into room that is there.
+fn push_all(answers: &mut Vec<AnswerRow>, raises: &mut Vec<RaiseRow>, rows: &[Put])
+    requires room { vec_len answers.old + length rows.now ≤ vec_capacity answers.old }
+    requires raise_room { vec_len raises.old + length rows.now ≤ vec_capacity raises.old }
+    ensures tables { (text : List ℕ) (allots : List Seat) (cuts : ℕ)
+        → tables_of (Some text) answers.new.items raises.new.items allots cuts
+        ≡ with_all rows.now (tables_of (Some text) answers.old.items raises.old.items allots cuts) }
+    ensures more { vec_len answers.new ≤ vec_len answers.old + length rows.now }
+    ensures capacity { vec_capacity answers.old ≤ vec_capacity answers.new }
+{
+    for row in rows {
+        push_one(answers, raises, *row);
+    }
+}
+
+/// Puts a row after the others, into room that is there.
+fn push_one(answers: &mut Vec<AnswerRow>, raises: &mut Vec<RaiseRow>, row: Put)
+    requires room { vec_len answers.old < vec_capacity answers.old }
+    requires raise_room { vec_len raises.old < vec_capacity raises.old }
+    ensures tables { (text : List ℕ) (allots : List Seat) (cuts : ℕ)
+        → tables_of (Some text) answers.new.items raises.new.items allots cuts
+        ≡ with_put row (tables_of (Some text) answers.old.items raises.old.items allots cuts) }
+    ensures more { vec_len answers.new ≤ vec_len answers.old + 1 }
+    ensures more_raises { vec_len raises.new ≤ vec_len raises.old + 1 }
+    ensures capacity { vec_capacity answers.old ≤ vec_capacity answers.new }
+    ensures raise_capacity { vec_capacity raises.old ≤ vec_capacity raises.new }
+{
+    match row {
+        Put::Answer(row) => answers.push_reserved(row),
+        Put::Raise(row) => raises.push_reserved(row),
     }
 }

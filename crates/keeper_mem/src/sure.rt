@@ -36,7 +36,7 @@ impl SureKeeper {
 impl Keeper for SureKeeper {
     ghost use Rattle.std.specs.Prelude.{true};
 
-    ghost seen = { λ k. record { tables = k.tables; faults = 0; holds_room = true; spare = k.spare } };
+    ghost seen = { λ k. record { tables = k.tables; kept = k.tables; settled = true; faults = 0; holds_room = true; spare = k.spare } };
 
     fn has_season(&mut self) -> Result<bool, KeepFault> {
         Ok(self.memory.has_season())
@@ -69,6 +69,14 @@ impl Keeper for SureKeeper {
 
     fn load(&mut self, alloc: Global) -> Result<Option<Kept>, KeepFault> {
         Ok(self.memory.load(alloc)?)
+    }
+
+    fn is_settled(&self) -> bool {
+        true
+    }
+
+    fn settle(&mut self) -> Result<(), KeepFault> {
+        Ok(())
     }
 }
 
