@@ -40,7 +40,7 @@ are_told x NoSeason is = sym is
 are_told x (Records kept) is = sym is
 
 module _ {S : Type 0} (g : Ghosts S) where
-  abbrev begun : Held S → Held S
+  abbrev pub begun : Held S → Held S
   begun old = record old { in_transaction = true }
 
   -- a store that is not clean is shut, and hides its tables

@@ -7,5 +7,6 @@ pub mod LossLemmas
 pub mod MeaningLemmas
 pub mod NumberLemmas
 pub mod OpenLemmas
+pub mod PutLemmas
 pub mod StopLemmas
 pub mod ToldLemmas

@@ -73,7 +73,7 @@ module _ {S : Type 0} (g : Ghosts S) where
 
   -- ---- the schema stays, and the connection was open
 
-  abbrev KeepsCall : Call → Type 0
+  abbrev pub KeepsCall : Call → Type 0
   KeepsCall (Runs text values) = PutsRows text
   KeepsCall (Places text values) = PutsRows text
   KeepsCall (Asks text rows) = Unit {0}
@@ -89,7 +89,7 @@ module _ {S : Type 0} (g : Ghosts S) where
   abbrev pub KeepsIf : Held S → Held S → Type 0
   KeepsIf old new = (new.schema ≡ old.schema) × (IsTrue (state g new).is_open → IsTrue (state g old).is_open)
 
-  keeps_all : (calls : List Call) (old new : Held S) → AllByRecursion KeepsCall calls → DidAll g calls old new → KeepsIf old new
+  pub keeps_all : (calls : List Call) (old new : Held S) → AllByRecursion KeepsCall calls → DidAll g calls old new → KeepsIf old new
   keeps_all [] old new keep did = (ap (λ (h : Held S). h.schema) (sym did), λ is_so. subst (λ (h : Held S). IsTrue (state g h).is_open) (sym did) is_so)
   keeps_all (call ∷ calls) old new keep did =
       let more = keeps_all calls did.0 new keep.1 did.2 in

@@ -12,15 +12,17 @@ use Rattle.sqlite.specs.Outline.{Outline}
 use Rattle.sqlite.specs.Steps.{Outlines}
 use Rattle.kept_rows.specs.declared.rows.AllotRow.{AllotRow}
 use Rattle.kept_rows.specs.declared.rows.Kept.{Kept}
+use Rattle.keeper_mem.specs.declared.batch.Put.{Put}
+use Rattle.keeper_mem.specs.declared.batch.Put.TheVariants.{Answer as OneAnswer, Raise as OneRaise}
 pub use Rattle.stored_tables.specs.Texts.{answer_text, answer_values, raise_text, raise_values, allot_text, allot_values, cuts_text, cuts_values, phase_query, opening_text, opening_values, part_text, part_values, text_query, answers_query, raises_query, allots_query, key_query, any_part, any_answer, any_raise, any_allot, season_table, phase_table, answer_table, lift_table, allot_table, table_texts}
-use Rattle.stored_tables.specs.Fits.{AllotFits}
+use Rattle.stored_tables.specs.Fits.{AnswerFits, RaiseFits, AllotFits}
 use Rattle.keeper_sqlite.specs.Columns.{IsPhaseRow, IsPartRow, IsAnswerRow, IsRaiseRow, IsAllotRow, TellsPhase, TellsKey}
 use Rattle.keeper_sqlite.specs.Rising.{rise_after_key}
 use Rattle.keeper_sqlite.specs.declared.calls.Act.{Act}
 use Rattle.keeper_sqlite.specs.declared.calls.Act.TheVariants.{Run, Place, ExpectNone}
 use Rattle.keeper_sqlite.specs.declared.rising.Key.{Key}
 use Rattle.keeper_sqlite.specs.declared.transactions.Change.{Change}
-use Rattle.keeper_sqlite.specs.declared.transactions.Change.TheVariants.{Answer, Raise, Tables, Season, Cut}
+use Rattle.keeper_sqlite.specs.declared.transactions.Change.TheVariants.{Answer, Raise, Rows, Tables, Season, Cut}
 
 -- whether a row exists, in each of the four tables other than the phase
 abbrev pub any_row_queries : List (List ℕ)
@@ -67,6 +69,20 @@ season_calls parts = unanswered_calls any_row_queries ++ text_calls parts ++ Pla
 -- the statement of this text is run once for each seat, in their order
 abbrev pub allot_calls : List ℕ → List AllotRow → List Call
 allot_calls text = map (λ row. Runs text (allot_values row))
+
+-- the statement that puts an answer or a raise
+abbrev pub put_call : Put → Call
+put_call (OneAnswer row) = Runs answer_text (answer_values row)
+put_call (OneRaise row) = Runs raise_text (raise_values row)
+
+-- a statement is run for each of these rows, in their order
+abbrev pub put_calls : List Put → List Call
+put_calls = map put_call
+
+-- the numbers of an answer or a raise fit their columns
+abbrev pub PutFits : Put → Type 0
+PutFits (OneAnswer row) = AnswerFits row
+PutFits (OneRaise row) = RaiseFits row
 
 -- each seat is put by one statement that is made ready once, and one cut more is written
 abbrev pub seat_calls : ℕ → List AllotRow → List Call
@@ -140,10 +156,16 @@ module _ {S : Type 0} (g : Ghosts S) where
     pub fit : AllByRecursion AllotFits rows
     pub room : made + 1 < 2 ^ 16
 
+  -- each of these rows was put, in their order
+  pub record MakesRows (rows : List Put) (old new : Held S) : Type 0 where
+    pub done : DidAll (put_calls rows) old new
+    pub fit : AllByRecursion PutFits rows
+
   -- what a change runs
   abbrev pub Makes : Change → Held S → Held S → Type 0
   Makes (Answer row) old new = Ran answer_text (answer_values row) old new
   Makes (Raise row) old new = Ran raise_text (raise_values row) old new
+  Makes (Rows rows) old new = MakesRows rows.now old new
   Makes Tables old new = DidAll (plain_calls table_texts) old new
   Makes (Cut rows) old new = MakesCut rows.now old new
   Makes (Season text) old new = PutsText season_calls text.now old new

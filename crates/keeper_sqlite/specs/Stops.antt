@@ -20,8 +20,8 @@ use Rattle.keeper_sqlite.specs.declared.rising.Key.{Key}
 use Rattle.keeper_sqlite.specs.declared.halt.Halt.{Halt}
 use Rattle.keeper_sqlite.specs.declared.halt.Halt.TheVariants.{Refused, InTransaction, Unfit}
 use Rattle.keeper_sqlite.specs.declared.transactions.Change.{Change}
-use Rattle.keeper_sqlite.specs.declared.transactions.Change.TheVariants.{Answer, Raise, Tables, Season, Cut}
-use Rattle.keeper_sqlite.specs.Kept.{Call, Did, DidAll, TellsText, TellsRecords, TellsPhaseOf, ToldPhase, AreAbove, Looks, answer_text, answer_values, raise_text, raise_values, phase_query, key_query, text_query, answers_query, raises_query, allots_query, plain_calls, table_texts, seat_calls, season_calls}
+use Rattle.keeper_sqlite.specs.declared.transactions.Change.TheVariants.{Answer, Raise, Rows, Tables, Season, Cut}
+use Rattle.keeper_sqlite.specs.Kept.{Call, Did, DidAll, TellsText, TellsRecords, TellsPhaseOf, ToldPhase, AreAbove, Looks, answer_text, answer_values, raise_text, raise_values, phase_query, key_query, text_query, answers_query, raises_query, allots_query, plain_calls, table_texts, put_calls, seat_calls, season_calls}
 use Rattle.keeper_sqlite.specs.Kept.Call.{Runs, Places, Asks, Readies}
 
 -- the database gave this error, and it is reported
@@ -119,6 +119,7 @@ module _ {S : Type 0} (g : Ghosts S) where
   abbrev pub Breaks : Change → Halt → Held S → Held S → Type 0
   Breaks (Answer row) = StopsIn (Runs answer_text (answer_values row) ∷ [])
   Breaks (Raise row) = StopsIn (Runs raise_text (raise_values row) ∷ [])
+  Breaks (Rows rows) = StopsIn (put_calls rows.now)
   Breaks Tables = StopsIn (plain_calls table_texts)
   Breaks (Cut rows) = LosesCut rows.now
   Breaks (Season text) = StopsText season_calls 0 text.now

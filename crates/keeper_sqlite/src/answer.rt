@@ -3,6 +3,7 @@ ghost use Rattle.std.specs.Prelude.{◌≡◌, [], ◌∷◌, codes, IfOk, IfErr
 ghost use Rattle.keeper_sqlite.specs.Inside.{Acts, IsClean, Performs, StaysInside, content};
 ghost use Rattle.keeper_sqlite.specs.Columns.{IsAnswerRow};
 ghost use Rattle.keeper_sqlite.specs.Kept.{Ran, TellsRecords, answers_query, answer_table, answer_text, answer_values};
+ghost use Rattle.stored_tables.specs.Fits.{AnswerFits};
 ghost use Rattle.stored_tables.specs.Layout.{stored};
 ghost use Rattle.stored_tables.specs.Puts.{PutsAnswer};
 ghost use Rattle.stored_tables.specs.Rows.{answers_in};
@@ -25,6 +26,7 @@ pub(crate) fn insert<S: Alter>(tx: &mut Transaction<'_, S>, row: AnswerRow) -> R
     ensures inside { StaysInside S.Store tx.old.conn tx.new.conn }
     ensures acts { Acts S.Store (λ _. Ran S.Store answer_text (answer_values row)) (StopsIn S.Store
         (Runs answer_text (answer_values row) ∷ [])) tx.old.conn tx.new.conn result }
+    ensures fits { AnswerFits row }
     ensures put { (strict : Bool) → IsClean S.Store tx.new.conn.now
         → tx.old.conn.now.schema ≡ stored strict → OnOk result
         (PutsAnswer row (content S.Store tx.old.conn.now) (content S.Store tx.new.conn.now)) }

@@ -6,12 +6,13 @@ ghost use Rattle.sqlite.specs.Tree.{Trees};
 ghost use Rattle.sqlite.specs.Held.{state};
 ghost use Rattle.keeper_sqlite.specs.Inside.{CrashLeaves, IsClean, content, shown, tables_without_raises};
 ghost use Rattle.keeper_sqlite.specs.Commits.{CommitsNothing, CommitsOnce};
-ghost use Rattle.keeper_sqlite.specs.Kept.{Keeps, MadeBy, Looks, TellsSeason, TellsKept, Makes, MakesCut, PutsText, Ran, DidAll, season_calls, plain_calls, table_texts, answer_text, answer_values, raise_text, raise_values};
+ghost use Rattle.keeper_sqlite.specs.Kept.{Keeps, MadeBy, Looks, TellsSeason, TellsKept, Makes, MakesCut, MakesRows, PutsText, Ran, DidAll, put_calls, season_calls, plain_calls, table_texts, answer_text, answer_values, raise_text, raise_values};
 ghost use Rattle.keeper_sqlite.specs.Halts.{keep_fault};
 ghost use Rattle.keeper_sqlite.specs.Transacts.{Transacts};
 ghost use Rattle.keeper_sqlite.specs.Stops.{FailsBy, StopsIn, StopsText, LosesPhase, LosesCut, LosesKept, Breaks, IsBusy, Loses};
 ghost use Rattle.keeper_sqlite.specs.Kept.Call.{Runs};
 ghost use Rattle.std.specs.List.{AllByRecursion};
+ghost use Rattle.keeper_mem.specs.Batch.{with_all};
 ghost use Rattle.kept_rows.specs.Tables.{NoSeason, Records, with_season, with_answer, with_raise, with_cut, AreTold, IsFound, IsLoaded, IsTold};
 ghost use Rattle.stored_tables.specs.Told.{tables_in};
 ghost use Rattle.stored_tables.specs.Leaves.{LeavesTables};
@@ -22,14 +23,14 @@ ghost use Rattle.stored_tables.specs.Layout.{no_schema, first_four, stored};
 use crate::halt::Halt;
 use crate::looks::{AnySeason, Everything, Look, look_in};
 use crate::transactions::{self, Change};
-use keeper_mem::{KeepFault, Keeper};
+use keeper_mem::{Batch, KeepFault, Keeper, Put};
 use kept_rows::{AllotRow, AnswerRow, Kept, RaiseRow};
 use sqlite::{Alter, Connection, Error, ErrorCode};
 use std::alloc::Global;
 use std::marker::Model;
 
 /// A keeper over a database. Its tables are visible if those of its store are, and it holds no room in advance.
-/// Each method is one transaction. If one returns `Failed`, the database refused or failed, or somebody else is in a
+/// Each method is one transaction, so no row waits: what a call puts is kept when it returns. If one returns `Failed`, the database refused or failed, or somebody else is in a
 /// transaction, or a row is no record or must not exist together with the new ones.
 /// The count of faults then rose by one, up to 2^64 - 1.
 #[derive(Drop)]
@@ -133,7 +134,7 @@ impl<S: Alter> SqliteKeeper<S> {
             (Makes S.Store change.entry) halt self.old.connection self.new.connection)) }
     {
         let done = transactions::commit(&mut self.connection, change);
-        self.settle(done)
+        self.report(done)
     }
 
     /// Looks in one transaction, which is rolled back.
@@ -154,11 +155,11 @@ impl<S: Alter> SqliteKeeper<S> {
             ⊎ Looks S.Store (L.loses halt) self.old.connection self.new.connection)) }
     {
         let done = look_in(&mut self.connection, wanted);
-        self.settle(done)
+        self.report(done)
     }
 
     /// Returns the result of a method. A lack of memory is reported as such, and everything else is counted.
-    fn settle<T>(&mut self, done: Result<T, Halt>) -> Result<T, KeepFault>
+    fn report<T>(&mut self, done: Result<T, Halt>) -> Result<T, KeepFault>
         ensures ok { IfOk result (λ value. done ≡ Ok value) }
         ensures err { IfErr result (λ fault. IsErrAnd done (λ halt. fault ≡ keep_fault halt)) }
         ensures count { self.old.faults ≤ self.new.faults }
@@ -179,10 +180,10 @@ impl<S: Alter> SqliteKeeper<S> {
 }
 
 impl<S: Alter> Keeper for SqliteKeeper<S> {
-    ghost use Rattle.std.specs.Prelude.{false};
+    ghost use Rattle.std.specs.Prelude.{true, false};
     ghost use Rattle.stored_tables.specs.Told.{told};
 
-    ghost seen = { λ k. record { tables = told (state S.Store k.connection); faults = k.faults; holds_room = false; spare = 0 } };
+    ghost seen = { λ k. record { tables = told (state S.Store k.connection); kept = told (state S.Store k.connection); settled = true; faults = k.faults; holds_room = false; spare = 0 } };
 
     fn has_season(&mut self) -> Result<bool, KeepFault>
         ensures ok { IfOk result (λ found. IsFound found (shown S.Store self.new.connection)) }
@@ -323,4 +324,39 @@ impl<S: Alter> Keeper for SqliteKeeper<S> {
     {
         self.look(Everything(alloc))
     }
+
+    fn is_settled(&self) -> bool {
+        true
+    }
+
+    fn settle(&mut self) -> Result<(), KeepFault> {
+        Ok(())
+    }
+}
+
+impl<S: Alter> Batch for SqliteKeeper<S> {
+    fn put_all(&mut self, rows: &[Put]) -> Result<(), KeepFault>
+        ensures ok { IsFound true (shown S.Store self.old.connection)
+            → OnOk result (AreTold (with_all rows.now (shown S.Store self.old.connection))
+            (shown S.Store self.new.connection)) }
+        ensures err { OnErr result
+            (AreTold (shown S.Store self.old.connection) (shown S.Store self.new.connection)) }
+        ensures stays { IsFound true (shown S.Store self.old.connection)
+            → IsClean S.Store self.new.connection → OnOk result (shown S.Store self.new.connection
+            ≡ with_all rows.now (shown S.Store self.old.connection)) }
+        ensures crash { IsFound true (shown S.Store self.old.connection)
+            → IsTold (shown S.Store self.old.connection) → CrashLeaves S.Store (with_all rows.now
+            (shown S.Store self.old.connection)) self.old.connection self.new.connection }
+        ensures alone { IsClean S.Store self.new.connection → OnOk result (IsTold (shown S.Store
+            self.new.connection) → (db : Trees) → (state S.Store self.new.connection).may_leave db
+            → tables_in db ≡ shown S.Store self.new.connection) }
+        ensures blamed { FailsByOne (IsErrOf result KeepFault.Failed)
+            self.old.faults self.new.faults }
+        ensures change { Transacts S.Store (MakesRows S.Store rows.now)
+            (StopsIn S.Store (put_calls rows.now)) self.old.connection self.new.connection result }
+    {
+        self.commit(Change::Rows(rows))
+    }
+
+    fn keeps_at_once(&self) {}
 }

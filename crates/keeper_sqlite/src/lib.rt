@@ -22,6 +22,7 @@ mod lift;
 mod looks;
 mod numbers;
 mod phase;
+mod puts;
 mod records;
 mod rising;
 mod season;

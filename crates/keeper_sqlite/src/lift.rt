@@ -3,6 +3,7 @@ ghost use Rattle.std.specs.Prelude.{◌≡◌, [], ◌∷◌, codes, IfOk, IfErr
 ghost use Rattle.keeper_sqlite.specs.Inside.{Acts, IsClean, Performs, StaysInside, content};
 ghost use Rattle.keeper_sqlite.specs.Columns.{IsRaiseRow};
 ghost use Rattle.keeper_sqlite.specs.Kept.{Ran, TellsRecords, raises_query, lift_table, raise_text, raise_values};
+ghost use Rattle.stored_tables.specs.Fits.{RaiseFits};
 ghost use Rattle.stored_tables.specs.Layout.{stored};
 ghost use Rattle.stored_tables.specs.Puts.{PutsRaise};
 ghost use Rattle.stored_tables.specs.Rows.{raises_in};
@@ -24,6 +25,7 @@ pub(crate) fn insert<S: Alter>(tx: &mut Transaction<'_, S>, row: RaiseRow) -> Re
     ensures inside { StaysInside S.Store tx.old.conn tx.new.conn }
     ensures acts { Acts S.Store (λ _. Ran S.Store raise_text (raise_values row)) (StopsIn S.Store
         (Runs raise_text (raise_values row) ∷ [])) tx.old.conn tx.new.conn result }
+    ensures fits { RaiseFits row }
     ensures put { (strict : Bool) → IsClean S.Store tx.new.conn.now
         → tx.old.conn.now.schema ≡ stored strict → OnOk result
         (PutsRaise row (content S.Store tx.old.conn.now) (content S.Store tx.new.conn.now)) }

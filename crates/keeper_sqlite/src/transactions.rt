@@ -3,13 +3,14 @@ ghost use Rattle.std.specs.Prelude.{◌≡◌, false, Ok, Err, IsTrue, IfErr, On
 ghost use Rattle.sqlite.specs.State.{IsLive, Survives};
 ghost use Rattle.sqlite.specs.Held.{state};
 ghost use Rattle.keeper_sqlite.specs.Inside.{Acts, FailsToSettle, IsClean, StaysInside, content, shown};
-ghost use Rattle.keeper_sqlite.specs.Stops.{StopsText, LosesCut, Breaks, IsBusy, Loses};
+ghost use Rattle.keeper_sqlite.specs.Stops.{StopsIn, StopsText, LosesCut, Breaks, IsBusy, Loses};
 ghost use Rattle.keeper_sqlite.specs.Commits.{CommitsNothing, CommitsOnce};
-ghost use Rattle.keeper_sqlite.specs.Kept.{Keeps, MadeBy, Makes, MakesCut, PutsText, season_calls};
+ghost use Rattle.keeper_sqlite.specs.Kept.{Keeps, MadeBy, Makes, MakesCut, MakesRows, PutsText, put_calls, season_calls};
 
 use crate::halt::Halt;
 use crate::rising::are_rising;
-use crate::{allot, answer, lift, phase, season, tables};
+use crate::{allot, answer, lift, phase, puts, season, tables};
+use keeper_mem::Put;
 use kept_rows::{AllotRow, AnswerRow, RaiseRow};
 use sqlite::{Alter, Connection, Transaction};
 
@@ -24,6 +25,8 @@ pub(crate) enum Change<'a> {
     Answer(AnswerRow),
     /// A raise after the others.
     Raise(RaiseRow),
+    /// Answers and raises after the others, in their order.
+    Rows(&'a [Put]),
     /// Published seats, which rise by round and candidate above those that are kept, and one more cut.
     Cut(&'a [AllotRow]),
 }
@@ -111,6 +114,7 @@ fn write<S: Alter>(tx: &mut Transaction<'_, S>, change: Change<'_>) -> Result<()
         Change::Season(text) => write_season(tx, text),
         Change::Answer(row) => answer::insert(tx, row),
         Change::Raise(row) => lift::insert(tx, row),
+        Change::Rows(rows) => write_rows(tx, rows),
         Change::Cut(rows) => write_cut(tx, rows),
     }
 }
@@ -124,6 +128,15 @@ fn write_season<S: Alter>(tx: &mut Transaction<'_, S>, text: &[u8]) -> Result<()
     tables::expect_empty(tx)?;
     season::insert_text(tx, text)?;
     phase::insert(tx)
+}
+
+/// Puts answers and raises.
+fn write_rows<S: Alter>(tx: &mut Transaction<'_, S>, rows: &[Put]) -> Result<(), Halt>
+    ensures inside { StaysInside S.Store tx.old.conn tx.new.conn }
+    ensures acts { Acts S.Store (λ _. MakesRows S.Store rows.now)
+        (StopsIn S.Store (put_calls rows.now)) tx.old.conn tx.new.conn result }
+{
+    puts::insert_all(tx, rows)
 }
 
 /// Puts published seats, and one cut more than were made. A season must be kept, and the rows must rise above the last

@@ -9,5 +9,7 @@ returns g c = record {
   call = search rules;
   ok = search rules;
   told = told_same (told (state g.S.Store c.args.self.now.connection));
+  kept = told_same (told (state g.S.Store c.args.self.now.connection));
+  waits = search rules;
   spare = search rules;
 }
