@@ -1,5 +1,5 @@
 // An office: the proceedings of its season, and the keeper that keeps their records.
-ghost use Rattle.std.specs.Prelude.{◌≡◌, ◌≤◌, [], true, false, None, Some, IfOk, IfErr, OnOk, OnErr, IsErrOf, MatchOption, length, option_copied};
+ghost use Rattle.std.specs.Prelude.{◌≡◌, ◌≤◌, [], true, false, None, Some, IfOk, IfErr, OnOk, OnErr, IsErrOf, IsTrue, MatchOption, length, option_copied};
 ghost use Rattle.office_base.specs.declared.asks.By.TheVariants.{Nobody};
 ghost use Rattle.season_file.specs.Season.{IsSeason};
 ghost use Rattle.kept_rows.specs.Tables.{AreTold, IsFound, IsTold, still};
@@ -10,9 +10,10 @@ ghost use Rattle.office_moves.specs.Stands.{Stand};
 ghost use Rattle.office_moves.specs.State.{opening, round_at};
 ghost use Rattle.proceedings.specs.Proceeding.{last_of, still_of};
 ghost use Rattle.keeper_mem.specs.Keeper.{Blames};
+ghost use Rattle.round_cut.specs.Answering.{KeepsOn};
 ghost use Rattle.round_cut.specs.Office.{Begins, HasRoom, office_over, who_by};
 
-use crate::fault::BeginFault;
+use crate::fault::{BeginFault, OfficeFault};
 use keeper_mem::Keeper;
 use kept_rows::AllotRow;
 use office_base::{Booked, By};
@@ -204,6 +205,27 @@ impl<K: Keeper> Office<K> {
             ≡ self.now.season.matrix.programmes }
     {
         self.book.matrix()
+    }
+
+    /// Returns whether everything that was accepted is kept: a crash takes none of it back.
+    pub fn is_settled(&self) -> bool
+        ensures is { result ≡ (K.seen self.now.keeper).settled }
+        ensures stands { IsTrue result
+            → Stand self.now.season self.now.state (K.seen self.now.keeper).kept }
+    {
+        self.keeper.is_settled()
+    }
+
+    /// Keeps all that was accepted and waits to be kept. After a fault it waits as before,
+    /// and whether a crash takes it back is open.
+    pub fn settle(&mut self) -> Result<(), OfficeFault>
+        ensures settled { OnOk result ((K.seen self.new.keeper).settled ≡ true) }
+        ensures kept { KeepsOn K.seen self.old self.new result }
+        ensures state { (self.new.entries ≡ self.old.entries) × (self.new.state ≡ self.old.state) }
+        ensures told { AreTold (K.seen self.old.keeper).tables (K.seen self.new.keeper).tables }
+    {
+        self.keeper.settle()?;
+        Ok(())
     }
 
     /// Returns the number of the last entry, or 0 if there is none.
