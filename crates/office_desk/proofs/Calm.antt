@@ -21,7 +21,7 @@ module _ {A : Type 0} where
   pub here_set : (xs : List A) (i : ℕ) (v w : A) → get_elem? xs i ≡ some v → get_elem? (set xs i w) i ≡ some w
   here_set xs i v w at = set_here xs i w (at_length xs i v at)
 
-module _ {V I B : Type 0} (basis : V → B) (entries : V → List I) (number : I → ℕ) (count : V → ℕ) (key : Snapshot V) where
+module _ {V I B : Type 0} (basis : V → B) (entries : V → List I) (number : I → ℕ) (count kept : V → ℕ) (key : Snapshot V) where
   abbrev Newest : List I → List (View V I) → Type 0
   Newest history views = (i : ℕ) × (v : View V I) × (get_elem? views i ≡ some v) × (1 ≤ v.shares) × (v.seen ≡ history)
 
@@ -38,25 +38,26 @@ module _ {V I B : Type 0} (basis : V → B) (entries : V → List I) (number : I
       ))
       (λ apart. (newest.0, newest.1, set_else views id newest.0 w apart ∙ newest.2, newest.3, newest.4))
 
-  abbrev Place : List I → ℕ → List (mathlib.Core.Option.Option (Option V)) → List (View V I) → Type 0
-  Place history most homes views = ((homes ≡ none ∷ []) × (total held_of views ≡ 1)) ⊎ ((x : V) × (homes ≡ some (Some x) ∷ []) × (total held_of views ≡ 0) × Stands basis entries number count key history most x)
+  abbrev Place : List I → ℕ → ℕ → List (mathlib.Core.Option.Option (Option V)) → List (View V I) → Type 0
+  Place history most most_kept homes views = ((homes ≡ none ∷ []) × (total held_of views ≡ 1)) ⊎ ((x : V) × (homes ≡ some (Some x) ∷ []) × (total held_of views ≡ 0) × Stands basis entries number count kept key history most most_kept x)
 
-  pub place_same : (history : List I) (most : ℕ) (homes : List (mathlib.Core.Option.Option (Option V))) (views views' : List (View V I)) → total held_of views' ≡ total held_of views
-      → Place history most homes views → Place history most homes views'
-  place_same history most homes views views' same (inl out) = inl (out.0, same ∙ out.1)
-  place_same history most homes views views' same (inr home) = inr (home.0, home.1, same ∙ home.2, home.3)
+  pub place_same : (history : List I) (most most_kept : ℕ) (homes : List (mathlib.Core.Option.Option (Option V))) (views views' : List (View V I)) → total held_of views' ≡ total held_of views
+      → Place history most most_kept homes views → Place history most most_kept homes views'
+  place_same history most most_kept homes views views' same (inl out) = inl (out.0, same ∙ out.1)
+  place_same history most most_kept homes views views' same (inr home) = inr (home.0, home.1, same ∙ home.2, home.3)
 
-  pub calm : (s : State (Option V) (View V I)) (h : InTurn basis entries number count key s) (id : ℕ) (v w : View V I) (next : ℕ) (words : List ℕ) (homes : List (mathlib.Core.Option.Option (Option V)))
+  pub calm : (s : State (Option V) (View V I)) (h : InTurn basis entries number count kept key s) (id : ℕ) (v w : View V I) (next : ℕ) (words : List ℕ) (homes : List (mathlib.Core.Option.Option (Option V)))
       → get_elem? s.views id ≡ some v → words ≡ next ∷ h.serving ∷ [] → h.next + waiting_of w ≡ next + waiting_of v
       → w.shares ≡ v.shares → w.left ≡ v.left → w.seen ≡ v.seen
       → ((t : ℕ) → within (first_ticket entries number key.value) h.next t + draws_of t w ≡ within (first_ticket entries number key.value) next t + draws_of t v)
-      → Fits basis entries number count key h.history h.serving h.most w → Place h.history h.most homes (set s.views id w)
-      → InTurn basis entries number count key record { words = words; homes = homes; views = set s.views id w }
+      → Fits basis entries number count kept key h.history h.serving h.most h.most_kept w → Place h.history h.most h.most_kept homes (set s.views id w)
+      → InTurn basis entries number count kept key record { words = words; homes = homes; views = set s.views id w }
   calm s h id v w next words homes at is waiting shares left seen drawn fits place = record {
     history = h.history;
     next = next;
     serving = h.serving;
     most = h.most;
+    most_kept = h.most_kept;
     words = is;
     lower = h.lower;
     upper = h.upper;
@@ -67,7 +68,7 @@ module _ {V I B : Type 0} (basis : V → B) (entries : V → List I) (number : I
     goes_on = h.goes_on;
     rising = h.rising;
     past = h.past;
-    views = each_set (Fits basis entries number count key h.history h.serving h.most) s.views id w h.views fits;
+    views = each_set (Fits basis entries number count kept key h.history h.serving h.most h.most_kept) s.views id w h.views fits;
     newest = newest_set h.history s.views id v w at shares seen h.newest;
     place = place;
   }

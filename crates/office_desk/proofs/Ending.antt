@@ -20,18 +20,19 @@ use Rattle.office_desk.proofs.TotalsLemmas.{others_none, total_alone}
 use Rattle.office_desk.proofs.TicketLemmas.{within_in, within_below, within_empty, all_below, rises_left}
 use Rattle.office_desk.proofs.EntryLemmas.{all_from_map, among_none, among_all, among-append}
 
-module _ {V I B : Type 0} (basis : V → B) (entries : V → List I) (number : I → ℕ) (count : V → ℕ) (key : Snapshot V) where
+module _ {V I B : Type 0} (basis : V → B) (entries : V → List I) (number : I → ℕ) (count kept : V → ℕ) (key : Snapshot V) where
   -- the desk begins with this value
   pub opens : (value : V) (n : ℕ) → key.value ≡ value → n ≡ first_ticket entries number value → n ≤ 2 ^ 40 → rises 0 (map number (entries value)) ≡ true
-      → InTurn basis entries number count key (opening (n ∷ n ∷ []) (Some value ∷ []) (whole_view entries count key))
+      → InTurn basis entries number count kept key (opening (n ∷ n ∷ []) (Some value ∷ []) (whole_view entries count kept key))
   opens value n same first small up =
       let low : first_ticket entries number key.value ≡ n = ap (first_ticket entries number) same ∙ sym first in
-      let view : View V I = whole_view entries count key in
+      let view : View V I = whole_view entries count kept key in
       record {
         history = entries key.value;
         next = n;
         serving = n;
         most = count key.value;
+        most_kept = kept key.value;
         words = refl;
         lower = omega (arith, low);
         upper = omega (arith, low, small);
@@ -45,16 +46,17 @@ module _ {V I B : Type 0} (basis : V → B) (entries : V → List I) (number : I
         rising = ap (λ x. rises 0 (map number (entries x))) same ∙ up;
         past = omega (arith, low);
         views = (λ i v at. ⊎_elim (λ nothing. absurd (some-ne-none v (sym nothing)))
-            (λ e. subst (Fits basis entries number count key (entries key.value) n (count key.value)) e record {
+            (λ e. subst (Fits basis entries number count kept key (entries key.value) n (count key.value) (kept key.value)) e record {
               about = (λ _. refl);
               begins = ([], sym (append-nil (entries key.value)), refl);
               past = tt;
               counts = omega arith;
+              keeps = omega arith;
               spent = (λ none. absurd (omega (arith, none)));
               stands = tt;
             }) (at_snoc [] view v i at));
         newest = (0, view, refl, omega arith, refl);
-        place = inr (value, refl, refl, (ap basis (sym same), ap entries (sym same), (let as_much : count key.value ≡ count value = ap count same in omega (arith, as_much))));
+        place = inr (value, refl, refl, (ap basis (sym same), ap entries (sym same), (let as_much : count key.value ≡ count value = ap count same in omega (arith, as_much)), (let as_many : kept key.value ≡ kept value = ap kept same in omega (arith, as_many))));
       }
 
   -- the value with which a desk ends: its list is what the whole pass has seen, and all that follows the opening is the pass's own
@@ -63,15 +65,16 @@ module _ {V I B : Type 0} (basis : V → B) (entries : V → List I) (number : I
     pub seen : entries x ≡ v.seen
     pub own : entries x ≡ entries key.value ++ among number v.tickets v.seen
     pub counts : v.count ≤ count x
+    pub keeps : v.kept ≤ kept x
 
-  below_first : (s : State (Option V) (View V I)) (h : InTurn basis entries number count key s) → AllByRecursion (λ e. number e < first_ticket entries number key.value) (entries key.value)
+  below_first : (s : State (Option V) (View V I)) (h : InTurn basis entries number count kept key s) → AllByRecursion (λ e. number e < first_ticket entries number key.value) (entries key.value)
   below_first s h =
       let goes = h.goes_on in
       let numbers : map number h.history ≡ map number (entries key.value) ++ map number goes.0 = ap (map number) goes.1 ∙ map-append number (entries key.value) goes.0 in
       let up = rises_left 0 (map number (entries key.value)) (map number goes.0) (sym (ap (rises 0) numbers) ∙ h.rising) in
       all_from_map (λ n. n < first_ticket entries number key.value) number (entries key.value) (all_below 0 (first_ticket entries number key.value) (map number (entries key.value)) up (omega arith))
 
-  past_serving : (s : State (Option V) (View V I)) (h : InTurn basis entries number count key s) → AllByRecursion (λ e. number e < h.serving) h.goes_on.0
+  past_serving : (s : State (Option V) (View V I)) (h : InTurn basis entries number count kept key s) → AllByRecursion (λ e. number e < h.serving) h.goes_on.0
   past_serving s h =
       let goes = h.goes_on in
       all_right (λ e. number e < h.serving) (entries key.value) goes.0 (subst (AllByRecursion (λ e. number e < h.serving)) goes.1
@@ -81,7 +84,7 @@ module _ {V I B : Type 0} (basis : V → B) (entries : V → List I) (number : I
   both_hold P Q [] all all' = tt
   both_hold P Q (x ∷ xs) all all' = ((all.0, all'.0), both_hold P Q xs all.1 all'.1)
 
-  pub ends : (s : State (Option V) (View V I)) (h : InTurn basis entries number count key s) (id : ℕ) (v : View V I) → get_elem? s.views id ≡ some v → v.shares ≡ 2 ^ 30 → v.stage ≡ Idle
+  pub ends : (s : State (Option V) (View V I)) (h : InTurn basis entries number count kept key s) (id : ℕ) (v : View V I) → get_elem? s.views id ≡ some v → v.shares ≡ 2 ^ 30 → v.stage ≡ Idle
       → (x : V) × (s.homes ≡ some (Some x) ∷ []) × IsLeft v x
   ends s h id v at whole idle =
       let f = h.views id v at in
@@ -116,6 +119,7 @@ module _ {V I B : Type 0} (basis : V → B) (entries : V → List I) (number : I
           seen = home.3.1 ∙ sym seen;
           own = home.3.1 ∙ goes.1 ∙ ap (λ l. entries key.value ++ l) (sym own);
           counts = (let seen' = f.counts in let most = home.3.2 in omega (arith, seen', most));
+          keeps = (let seen' = f.keeps in let most = home.3.3 in omega (arith, seen', most));
         },
       ))
       h.place

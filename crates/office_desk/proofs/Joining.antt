@@ -23,7 +23,7 @@ larger_count : (b : Bool) (m n most : ℕ) → m ≤ most → n ≤ most → con
 larger_count true m n most le le' = le
 larger_count false m n most le le' = le'
 
-module _ {V I B : Type 0} (basis : V → B) (entries : V → List I) (number : I → ℕ) (count : V → ℕ) (key : Snapshot V) where
+module _ {V I B : Type 0} (basis : V → B) (entries : V → List I) (number : I → ℕ) (count kept : V → ℕ) (key : Snapshot V) where
   -- one of the two has seen all, or neither
   newest_joined : (history : List I) (views : List (View V I)) (id other : ℕ) (v w : View V I) → get_elem? views id ≡ some v → get_elem? views other ≡ some w → other ≢ id
       → 1 ≤ v.shares → HasSeen number (v.tickets ++ w.tickets) (longer v.seen w.seen) history
@@ -56,7 +56,7 @@ module _ {V I B : Type 0} (basis : V → B) (entries : V → List I) (number : I
       )))
 
   pub joins : (id other : ℕ) (v w : View V I) → v.stage ≡ Idle → w.stage ≡ Idle → 1 ≤ v.shares
-      → Joins (InTurn basis entries number count key) id v other w (both_of v w) spent_view
+      → Joins (InTurn basis entries number count kept key) id v other w (both_of v w) spent_view
   joins id other v w idle idle' alive s h at apart there =
       let both = both_of v w in
       let there' : get_elem? s.views other ≡ some w = sym (set_else s.views id other both apart) ∙ there in
@@ -74,6 +74,7 @@ module _ {V I B : Type 0} (basis : V → B) (entries : V → List I) (number : I
         next = h.next;
         serving = h.serving;
         most = h.most;
+        most_kept = h.most_kept;
         words = h.words;
         lower = h.lower;
         upper = h.upper;
@@ -88,12 +89,13 @@ module _ {V I B : Type 0} (basis : V → B) (entries : V → List I) (number : I
         goes_on = h.goes_on;
         rising = h.rising;
         past = h.past;
-        views = each_set (Fits basis entries number count key h.history h.serving h.most) (set s.views id both) other spent_view
-            (each_set (Fits basis entries number count key h.history h.serving h.most) s.views id both h.views record {
+        views = each_set (Fits basis entries number count kept key h.history h.serving h.most h.most_kept) (set s.views id both) other spent_view
+            (each_set (Fits basis entries number count kept key h.history h.serving h.most h.most_kept) s.views id both h.views record {
               about = (λ _. f.about alive);
               begins = seen.all;
               past = all_joined (λ t. t < h.serving) v.tickets w.tickets f.past g.past;
               counts = larger_count (nat_lt v.count w.count) w.count v.count h.most g.counts f.counts;
+              keeps = larger_count (nat_lt v.kept w.kept) w.kept v.kept h.most_kept g.keeps f.keeps;
               spent = (λ nothing. absurd (omega (arith, nothing, alive)));
               stands = (f.begins, g.begins, refl, refl);
             })
@@ -102,9 +104,10 @@ module _ {V I B : Type 0} (basis : V → B) (entries : V → List I) (number : I
               begins = (h.history, refl, among_no_tickets number h.history);
               past = tt;
               counts = omega arith;
+              keeps = omega arith;
               spent = (λ _. (refl, refl, refl));
               stands = tt;
             };
         newest = newest_joined h.history s.views id other v w at there' apart alive seen.all h.newest;
-        place = place_same basis entries number count key h.history h.most s.homes s.views (set (set s.views id both) other spent_view) (summed held_of (omega (arith, out, out'))) h.place;
+        place = place_same basis entries number count kept key h.history h.most h.most_kept s.homes s.views (set (set s.views id both) other spent_view) (summed held_of (omega (arith, out, out'))) h.place;
       }

@@ -15,22 +15,23 @@ use Rattle.office_desk.proofs.TotalsLemmas.{total_set, total_same, total_snoc, e
 use Rattle.office_desk.proofs.EntryLemmas.{among_no_tickets}
 use Rattle.office_desk.proofs.Calm.{here_set, place_same}
 
-module _ {V I B : Type 0} (basis : V → B) (entries : V → List I) (number : I → ℕ) (count : V → ℕ) (key : Snapshot V) where
+module _ {V I B : Type 0} (basis : V → B) (entries : V → List I) (number : I → ℕ) (count kept : V → ℕ) (key : Snapshot V) where
   pub parts : (id k : ℕ) (v : View V I) → v.stage ≡ Idle → 2 ≤ v.shares → k ≤ v.left
-      → Splits (InTurn basis entries number count key) id v (left_part k v) (right_part k v)
+      → Splits (InTurn basis entries number count kept key) id v (left_part k v) (right_part k v)
   parts id k v idle some_shares turns s h at =
       let f = h.views id v at in
       let left = left_part k v in
       let right = right_part k v in
       let cut = set s.views id left in
       let total_after : (g : View V I → ℕ) → total g (cut ++ right ∷ []) ≡ total g cut + g right = (λ g. total_snoc g cut right) in
-      let quiet : FitsStage basis entries number count h.history h.serving h.most left v.stage = subst (FitsStage basis entries number count h.history h.serving h.most left) (sym idle) tt in
-      let quiet' : FitsStage basis entries number count h.history h.serving h.most right v.stage = subst (FitsStage basis entries number count h.history h.serving h.most right) (sym idle) tt in
+      let quiet : FitsStage basis entries number count kept h.history h.serving h.most h.most_kept left v.stage = subst (FitsStage basis entries number count kept h.history h.serving h.most h.most_kept left) (sym idle) tt in
+      let quiet' : FitsStage basis entries number count kept h.history h.serving h.most h.most_kept right v.stage = subst (FitsStage basis entries number count kept h.history h.serving h.most h.most_kept right) (sym idle) tt in
       record {
         history = h.history;
         next = h.next;
         serving = h.serving;
         most = h.most;
+        most_kept = h.most_kept;
         words = h.words;
         lower = h.lower;
         upper = h.upper;
@@ -43,12 +44,13 @@ module _ {V I B : Type 0} (basis : V → B) (entries : V → List I) (number : I
         goes_on = h.goes_on;
         rising = h.rising;
         past = h.past;
-        views = each_snoc (Fits basis entries number count key h.history h.serving h.most) cut right
-            (each_set (Fits basis entries number count key h.history h.serving h.most) s.views id left h.views record {
+        views = each_snoc (Fits basis entries number count kept key h.history h.serving h.most h.most_kept) cut right
+            (each_set (Fits basis entries number count kept key h.history h.serving h.most h.most_kept) s.views id left h.views record {
               about = (λ some_left. f.about (omega (arith, some_shares)));
               begins = f.begins;
               past = f.past;
               counts = f.counts;
+              keeps = f.keeps;
               spent = (λ none. absurd (omega (arith, none, some_shares)));
               stands = quiet;
             })
@@ -57,6 +59,7 @@ module _ {V I B : Type 0} (basis : V → B) (entries : V → List I) (number : I
               begins = (let seen = f.begins in (seen.0, seen.1, among_no_tickets number seen.0));
               past = tt;
               counts = f.counts;
+              keeps = f.keeps;
               spent = (λ none. absurd (omega (arith, none)));
               stands = quiet';
             };
@@ -64,6 +67,6 @@ module _ {V I B : Type 0} (basis : V → B) (entries : V → List I) (number : I
             (λ e. let same : newest.1 ≡ v = some-injective newest.1 v (sym newest.2 ∙ ap (λ i. get_elem? s.views i) e ∙ at) in
             (id, left, at_longer cut (right ∷ []) id left (here_set s.views id v left at), omega (arith, some_shares), ap (λ (u : View V I). u.seen) (sym same) ∙ newest.4))
             (λ apart. (newest.0, newest.1, at_longer cut (right ∷ []) newest.0 newest.1 (set_else s.views id newest.0 left apart ∙ newest.2), newest.3, newest.4)));
-        place = place_same basis entries number count key h.history h.most s.homes s.views (cut ++ right ∷ [])
+        place = place_same basis entries number count kept key h.history h.most h.most_kept s.homes s.views (cut ++ right ∷ [])
             (let all = total_after held_of in let same = total_same held_of s.views id v left at refl in let none : held_of v ≡ 0 = ap held_in idle in omega (arith, all, same, none)) h.place;
       }

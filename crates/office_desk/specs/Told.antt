@@ -15,13 +15,13 @@ module _ {V I : Type 0} where
   Draws st m n m' = (m'.0 ≡ record m.0 { stage = Waits n }) × (m'.1 ≡ m.1)
 
   -- the view with the value x out with it
-  abbrev pub holding : (V → List I) → (V → ℕ) → View V I → ℕ → V → View V I
-  holding entries count v t x = record v { stage = Holds t (entries x) (count x) }
+  abbrev pub holding : (V → List I) → (V → ℕ) → (V → ℕ) → View V I → ℕ → V → View V I
+  holding entries count kept v t x = record v { stage = Holds t (entries x) (count x) (kept x) }
 
-  module _ {B : Type 0} (basis : V → B) (entries : V → List I) (number : I → ℕ) (count : V → ℕ) where
+  module _ {B : Type 0} (basis : V → B) (entries : V → List I) (number : I → ℕ) (count kept : V → ℕ) where
     -- The value x went out to a pass with the view v, whose ticket t is served. It has the desk's basis.
     -- Its history begins with what the pass has seen, and has no other entry of the pass. Its numbers rise and are below t.
-    -- So are the earlier tickets of the pass. Its count is no lower than the one that was seen, and t is below 2 ^ 41.
+    -- So are the earlier tickets of the pass. Its count is no lower than the one that was seen, no fewer entries are kept, and t is below 2 ^ 41.
     pub record IsTaken (t : ℕ) (v : View V I) (x : V) : Type 0 where
       pub about : (key : Snapshot V) → v.about ≡ Some key → basis x ≡ basis key.value
       pub begins : HasSeen number v.tickets v.seen (entries x)
@@ -29,17 +29,18 @@ module _ {V I : Type 0} where
       pub last : last_of_numbers (map number (entries x)) < t
       pub past : AllByRecursion (λ u. u < t) v.tickets
       pub counts : v.count ≤ count x
+      pub keeps : v.kept ≤ kept x
       pub small : t < 2 ^ 41
 
     -- the value is out with the pass exactly where its ticket was found
     abbrev pub Looks : Step (Option V) → Me (Option V) (View V I) → ℕ → Me (Option V) (View V I) → Type 0
-    Looks st m n m' = (t : ℕ) → m.0.stage ≡ Waits t → (n ≡ t → (x : V) × (m' ≡ (holding entries count m.0 t x, (0, Some x) ∷ m.1)) × IsTaken t m.0 x) × (n ≢ t → m' ≡ m)
+    Looks st m n m' = (t : ℕ) → m.0.stage ≡ Waits t → (n ≡ t → (x : V) × (m' ≡ (holding entries count kept m.0 t x, (0, Some x) ∷ m.1)) × IsTaken t m.0 x) × (n ≢ t → m' ≡ m)
 
-  module _ (entries : V → List I) (count : V → ℕ) where
+  module _ (entries : V → List I) (count kept : V → ℕ) where
     abbrev pub after_turn : View V I → V → Stage I → View V I
     after_turn v x Idle = v
     after_turn v x (Waits t) = v
-    after_turn v x (Holds t kept n) = record v { left = v.left - 1; tickets = v.tickets ++ t ∷ []; seen = entries x; found = n; count = count x; stage = Idle }
+    after_turn v x (Holds t taken n k) = record v { left = v.left - 1; tickets = v.tickets ++ t ∷ []; seen = entries x; found = n; count = count x; kept = kept x; stage = Idle }
     after_turn v x (Joined seen tickets seen' tickets') = v
 
     -- the view after the turn in which the value of the slot was put back

@@ -18,14 +18,14 @@ module _ {I : Type 0} where
   abbrev pub open_of : Stage I → List ℕ
   open_of Idle = []
   open_of (Waits t) = t ∷ []
-  open_of (Holds t kept n) = t ∷ []
+  open_of (Holds t taken n k) = t ∷ []
   open_of (Joined seen tickets seen' tickets') = []
 
   -- 1 where the value is out with it
   abbrev pub held_in : Stage I → ℕ
   held_in Idle = 0
   held_in (Waits t) = 0
-  held_in (Holds t kept n) = 1
+  held_in (Holds t taken n k) = 1
   held_in (Joined seen tickets seen' tickets') = 0
 
 module _ {V I : Type 0} where
@@ -56,47 +56,50 @@ module _ {V I : Type 0} where
     seen = longer v.seen w.seen;
     found = if nat_lt v.count w.count then w.found else v.found;
     count = if nat_lt v.count w.count then w.count else v.count;
+    kept = if nat_lt v.kept w.kept then w.kept else v.kept;
     stage = Joined v.seen v.tickets w.seen w.tickets;
   }
 
   abbrev pub spent_view : View V I
-  spent_view = record { about = None; shares = 0; left = 0; tickets = []; seen = []; found = 0; count = 0; stage = Idle }
+  spent_view = record { about = None; shares = 0; left = 0; tickets = []; seen = []; found = 0; count = 0; kept = 0; stage = Idle }
 
   -- the view of the first pass
-  abbrev pub whole_view : (V → List I) → (V → ℕ) → Snapshot V → View V I
-  whole_view entries count key = record { about = Some key; shares = 2 ^ 30; left = 2 ^ 40; tickets = []; seen = entries key.value; found = count key.value; count = count key.value; stage = Idle }
+  abbrev pub whole_view : (V → List I) → (V → ℕ) → (V → ℕ) → Snapshot V → View V I
+  whole_view entries count kept key = record { about = Some key; shares = 2 ^ 30; left = 2 ^ 40; tickets = []; seen = entries key.value; found = count key.value; count = count key.value; kept = kept key.value; stage = Idle }
 
   -- the first ticket of a desk that begins with this value
   abbrev pub first_ticket : (V → List I) → (I → ℕ) → V → ℕ
   first_ticket entries number origin = last_of_numbers (map number (entries origin)) + 1
 
-  module _ {B : Type 0} (basis : V → B) (entries : V → List I) (number : I → ℕ) (count : V → ℕ) where
+  module _ {B : Type 0} (basis : V → B) (entries : V → List I) (number : I → ℕ) (count kept : V → ℕ) where
     -- what holds of an open ticket, of a value that is out, and of a view that was joined
-    abbrev pub FitsStage : List I → ℕ → ℕ → View V I → Stage I → Type 0
-    FitsStage history serving most v Idle = Unit {0}
-    FitsStage history serving most v (Waits t) = (serving ≤ t) × (1 ≤ v.left)
-    FitsStage history serving most v (Holds t kept n) = (t ≡ serving) × (1 ≤ v.left) × (kept ≡ history) × (most ≤ n)
-    FitsStage history serving most v (Joined seen tickets seen' tickets') =
+    abbrev pub FitsStage : List I → ℕ → ℕ → ℕ → View V I → Stage I → Type 0
+    FitsStage history serving most most_kept v Idle = Unit {0}
+    FitsStage history serving most most_kept v (Waits t) = (serving ≤ t) × (1 ≤ v.left)
+    FitsStage history serving most most_kept v (Holds t taken n k) = (t ≡ serving) × (1 ≤ v.left) × (taken ≡ history) × (most ≤ n) × (most_kept ≤ k)
+    FitsStage history serving most most_kept v (Joined seen tickets seen' tickets') =
         HasSeen number tickets seen history × HasSeen number tickets' seen' history × (v.tickets ≡ tickets ++ tickets') × (v.seen ≡ longer seen seen')
 
     -- Of one view: it is about this desk, has seen a prefix of the history with all its own entries, and its tickets are past. A spent view has nothing.
-    pub record Fits (key : Snapshot V) (history : List I) (serving most : ℕ) (v : View V I) : Type 0 where
+    pub record Fits (key : Snapshot V) (history : List I) (serving most most_kept : ℕ) (v : View V I) : Type 0 where
       pub about : 1 ≤ v.shares → v.about ≡ Some key
       pub begins : HasSeen number v.tickets v.seen history
       pub past : AllByRecursion (λ t. t < serving) v.tickets
       pub counts : v.count ≤ most
+      pub keeps : v.kept ≤ most_kept
       pub spent : v.shares ≡ 0 → (v.tickets ≡ []) × (v.left ≡ 0) × (v.stage ≡ Idle)
-      pub stands : FitsStage history serving most v v.stage
+      pub stands : FitsStage history serving most most_kept v v.stage
 
-    -- a value at home has the desk's basis and the whole history, and no view has seen a larger count
-    abbrev pub Stands : Snapshot V → List I → ℕ → V → Type 0
-    Stands key history most x = (basis x ≡ basis key.value) × (entries x ≡ history) × (most ≤ count x)
+    -- a value at home has the desk's basis and the whole history, and no view has seen a larger count or more entries kept
+    abbrev pub Stands : Snapshot V → List I → ℕ → ℕ → V → Type 0
+    Stands key history most most_kept x = (basis x ≡ basis key.value) × (entries x ≡ history) × (most ≤ count x) × (most_kept ≤ kept x)
 
     pub record InTurn (key : Snapshot V) (s : State (Option V) (View V I)) : Type 0 where
       pub history : List I
       pub next : ℕ
       pub serving : ℕ
       pub most : ℕ
+      pub most_kept : ℕ
       -- the words
       pub words : s.words ≡ next ∷ serving ∷ []
       -- the tickets go on from the last number, which is below 2 ^ 40
@@ -116,8 +119,8 @@ module _ {V I : Type 0} where
       pub rising : rises 0 (map number history) ≡ true
       pub past : last_of_numbers (map number history) < serving
       -- what holds of each view
-      pub views : Each (Fits key history serving most) s.views
+      pub views : Each (Fits key history serving most most_kept) s.views
       -- some view that is not spent has seen the whole history
       pub newest : (i : ℕ) × (v : View V I) × (get_elem? s.views i ≡ some v) × (1 ≤ v.shares) × (v.seen ≡ history)
       -- the value is out with one view, or at home
-      pub place : ((s.homes ≡ none ∷ []) × (total held_of s.views ≡ 1)) ⊎ ((x : V) × (s.homes ≡ some (Some x) ∷ []) × (total held_of s.views ≡ 0) × Stands key history most x)
+      pub place : ((s.homes ≡ none ∷ []) × (total held_of s.views ≡ 1)) ⊎ ((x : V) × (s.homes ≡ some (Some x) ∷ []) × (total held_of s.views ≡ 0) × Stands key history most most_kept x)

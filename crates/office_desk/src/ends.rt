@@ -1,16 +1,18 @@
 // A desk begins and ends.
 ghost use Rattle.std.specs.Prelude.{◌≡◌, ◌+◌, ◌<◌, ◌≤◌, ◌^◌, ◌++◌, [], IfOk, IfErr, map};
 ghost use Rattle.office_base.specs.Numbered.{last_of_numbers};
-ghost use Rattle.office_desk.specs.Words.{belongs, origin_of, shares_of, left_of, tickets_of, seen_of, own_of, found_of, count_of};
+ghost use Rattle.office_desk.specs.Words.{belongs, origin_of, shares_of, left_of, tickets_of, seen_of, own_of, found_of, count_of, kept_of};
 
+use crate::Keeps;
 use crate::handles::{Desk, Pass};
 use atomic_table::{Refused, Table};
-use office_base::{Booked, OutOfMemory};
+use office_base::OutOfMemory;
 use std::alloc::Global;
 use std::snapshot::Snapshot;
 use std::sync::Mutex;
+use std::sync::atomic::AtomicU64;
 
-impl<V: Booked> Desk<V> {
+impl<V: Keeps> Desk<V> {
     /// Makes a desk for this value, and its first pass, with 2^30 shares and 2^40 turns.
     /// Tickets follow the value's last number.
     /// If memory runs out, it returns the value.
@@ -20,6 +22,7 @@ impl<V: Booked> Desk<V> {
         ensures pass { IfOk result (λ made. (shares_of made.1 ≡ 2 ^ 30) × (left_of made.1 ≡ 2 ^ 40)
             × (tickets_of made.1 ≡ []) × (seen_of made.1 ≡ V.entries value)
             × (found_of made.1 ≡ V.count value) × (count_of made.1 ≡ V.count value)) }
+        ensures kept { IfOk result (λ made. kept_of made.1 ≡ V.kept value) }
         ensures refused { IfErr result (λ refused. refused.0 ≡ value) }
     {
         let mut slots = match Vec::with_capacity(alloc, 1) {
@@ -31,8 +34,13 @@ impl<V: Booked> Desk<V> {
         slots.push_reserved(Some(value));
         match Table::new(alloc, &[first, first], slots, &about) {
             Ok((table, seat)) => {
-                let gate = Mutex::new(());
-                Ok((Desk { gate, table }, Pass::first(seat)))
+                let desk = Desk {
+                    gate: Mutex::new(()),
+                    coming: AtomicU64::new(0),
+                    late: Mutex::new(()),
+                    table,
+                };
+                Ok((desk, Pass::first(seat)))
             }
             Err(Refused { mut slots }) => {
                 let value = slots.pop().unwrap().unwrap();
@@ -50,8 +58,14 @@ impl<V: Booked> Desk<V> {
         ensures seen { V.entries result ≡ seen_of pass }
         ensures own { V.entries result ≡ V.entries (origin_of self) ++ own_of pass }
         ensures count { count_of pass ≤ V.count result }
+        ensures kept { kept_of pass ≤ V.kept result }
     {
-        let Desk { gate: _, table } = self;
+        let Desk {
+            gate: _,
+            coming: _,
+            late: _,
+            table,
+        } = self;
         let mut closed = table.close_with(pass.into_seat());
         let value = closed.take(0).unwrap();
         closed.free();

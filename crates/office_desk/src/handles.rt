@@ -2,18 +2,22 @@
 ghost use Rattle.std.specs.Prelude.{◌≡◌, ◌≤◌, ◌^◌, []};
 ghost use Rattle.office_desk.specs.declared.view.Stage.TheVariants.{Idle};
 
-use crate::{Turns, View};
+use crate::{Keeps, Turns, View};
 use atomic_table::{Seat, Table};
-use office_base::Booked;
 use std::alloc::Global;
 use std::snapshot::Snapshot;
 use std::sync::Mutex;
+use std::sync::atomic::AtomicU64;
 
 /// A place at which one value is used in turns.
-pub struct Desk<V: Booked> {
+pub struct Desk<V: Keeps> {
     // Callers wait here. The caller who has it draws a ticket, which is served at once.
     // A caller that drew a ticket and then slept would hold up all others.
     pub(crate) gate: Mutex<()>,
+    // How many callers wait here. No clause speaks of it: by it a late turn lets them go first.
+    pub(crate) coming: AtomicU64,
+    // Who takes a late turn has this, so that of several one waits at the gate.
+    pub(crate) late: Mutex<()>,
     pub(crate) table: Table<Option<V>, View<V>, Snapshot<V>, Turns, Global>,
     ghost sized: { (table.shared.table_id.words ≡ 2) × (table.shared.table_id.slots ≡ 1) },
 }
@@ -21,7 +25,7 @@ pub struct Desk<V: Booked> {
 /// The right to some turns at a desk, and what its holder knows of the history.
 /// A pass that is dropped keeps its shares for good.
 #[derive(Drop)]
-pub struct Pass<V: Booked> {
+pub struct Pass<V: Keeps> {
     pub(crate) seat: Seat<Option<V>, View<V>>,
     pub(crate) shares: u64,
     pub(crate) left: u64,

@@ -7,16 +7,16 @@ ghost use Rattle.office_desk.specs.Words.{belongs, shares_of, left_of, tickets_o
 ghost use Rattle.office_desk.specs.Joined.{IsSplitOff, IsUnion, united};
 
 use crate::handles::{Desk, Pass};
-use crate::{Part, Portion, Settle, Union, View};
+use crate::{Keeps, Part, Portion, Settle, Union, View};
 use atomic_table::Seat;
-use office_base::{Booked, OutOfMemory};
+use office_base::OutOfMemory;
 use std::marker::Brand;
 
 /// All shares of a desk.
 const WHOLE: u64 = 1 << 30;
 
 // The seat gives one share and these turns away.
-fn cut<V: Booked, P: Portion>(
+fn cut<V: Keeps, P: Portion>(
     desk: &Desk<V>,
     seat: &mut Seat<Option<V>, View<V>>,
     turns: u64,
@@ -34,7 +34,7 @@ fn cut<V: Booked, P: Portion>(
     desk.table.shared.split_seat::<Part<P>>(seat)
 }
 
-impl<V: Booked> Pass<V> {
+impl<V: Keeps> Pass<V> {
     // The pass of all shares and turns.
     pub(crate) fn first(seat: Seat<Option<V>, View<V>>) -> Pass<V>
         requires shares { (seat.me.0.shares ≡ 2 ^ 30) × (seat.me.0.left ≡ 2 ^ 40) }
@@ -108,7 +108,7 @@ impl<V: Booked> Pass<V> {
 }
 
 // Makes one of two seats, and finds how the two are related.
-fn unite<V: Booked>(
+fn unite<V: Keeps>(
     desk: &Desk<V>,
     seat: &mut Seat<Option<V>, View<V>>,
     other: Seat<Option<V>, View<V>>,

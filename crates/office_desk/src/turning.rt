@@ -8,27 +8,43 @@ ghost use Rattle.office_desk.specs.Words.{belongs, origin_of, left_of};
 ghost use Rattle.office_desk.specs.Turned.{Leaves, MayReturn, IsTurn};
 
 use crate::handles::{Desk, Pass};
-use crate::{Advance, Draw, Look, View};
+use crate::{Advance, Draw, Keeps, Look, View};
 use atomic_table::Seat;
-use office_base::Booked;
+use std::sync::atomic::Ordering;
 use std::sync::{MutexGuard, Wait};
 use std::thread;
 
 /// How often a caller yields before it sleeps.
 const YIELDS: u32 = 64;
 
+/// How often a late caller yields at most to those who sleep.
+const LATE_YIELDS: u32 = 4096;
+
 // Waits at the gate: a few times by yielding, since a turn is short, and then by sleeping.
-fn enter<'a, W: Wait, V: Booked>(rt: &W, desk: &'a Desk<V>) -> MutexGuard<'a, ()> {
+fn enter<'a, W: Wait, V: Keeps>(rt: &W, desk: &'a Desk<V>) -> MutexGuard<'a, ()> {
     for _ in 0..YIELDS {
         if let Some(gate) = desk.gate.try_lock() {
             return gate;
         }
         thread::yield_now();
     }
-    desk.gate.lock(rt)
+    desk.coming.fetch_add(1, Ordering::SeqCst);
+    let gate = desk.gate.lock(rt);
+    desk.coming.fetch_sub(1, Ordering::SeqCst);
+    gate
 }
 
-fn draw<V: Booked>(desk: &Desk<V>, seat: &mut Seat<Option<V>, View<V>>) -> u64
+// Yields while somebody sleeps at the gate, but not for ever.
+fn let_in<V: Keeps>(desk: &Desk<V>) {
+    for _ in 0..LATE_YIELDS {
+        if desk.coming.load(Ordering::SeqCst) == 0 {
+            return;
+        }
+        thread::yield_now();
+    }
+}
+
+fn draw<V: Keeps>(desk: &Desk<V>, seat: &mut Seat<Option<V>, View<V>>) -> u64
     requires table { seat.old.table_id ≡ desk.now.table.shared.table_id }
     requires idle { seat.old.me.0.stage ≡ Idle }
     requires turns { 1 ≤ seat.old.me.0.left }
@@ -40,7 +56,7 @@ fn draw<V: Booked>(desk: &Desk<V>, seat: &mut Seat<Option<V>, View<V>>) -> u64
 
 // Waits until the ticket is served, which is at once for the caller who has the gate.
 // The slot is then out with the seat, and has the value.
-fn await_turn<W: Wait, V: Booked>(
+fn await_turn<W: Wait, V: Keeps>(
     rt: &W,
     desk: &Desk<V>,
     seat: &mut Seat<Option<V>, View<V>>,
@@ -49,9 +65,9 @@ fn await_turn<W: Wait, V: Booked>(
     requires table { seat.old.table_id ≡ desk.now.table.shared.table_id }
     requires waits { (seat.old.me.0.stage ≡ Waits number) × (seat.old.me.1 ≡ []) }
     ensures table { seat.new.table_id ≡ seat.old.table_id }
-    ensures held { (x : V)
-        × (seat.new.me ≡ (holding V.entries V.count seat.old.me.0 number x, (0, Some x) ∷ []))
-        × IsTaken V.basis V.entries V.number V.count number seat.old.me.0 x }
+    ensures held { (x : V) × (seat.new.me
+        ≡ (holding V.entries V.count V.kept seat.old.me.0 number x, (0, Some x) ∷ []))
+        × IsTaken V.basis V.entries V.number V.count V.kept number seat.old.me.0 x }
 {
     let shared = &desk.table.shared;
     for _ in rt.forever() {
@@ -65,19 +81,19 @@ fn await_turn<W: Wait, V: Booked>(
 }
 
 // The value in the slot goes home, and the next ticket is served.
-fn hand_back<V: Booked>(desk: &Desk<V>, seat: &mut Seat<Option<V>, View<V>>, number: u64)
+fn hand_back<V: Keeps>(desk: &Desk<V>, seat: &mut Seat<Option<V>, View<V>>, number: u64)
     requires table { seat.old.table_id ≡ desk.now.table.shared.table_id }
     requires small { number < 2 ^ 41 }
     requires held { (y : V) × (seat.old.me.1 ≡ (0, Some y) ∷ [])
-        × MayReturn V.basis V.entries V.number V.count number seat.old.me.0 y }
+        × MayReturn V.basis V.entries V.number V.count V.kept number seat.old.me.0 y }
     ensures table { seat.new.table_id ≡ seat.old.table_id }
-    ensures view { (y : V) × (seat.old.me.1 ≡ (0, Some y) ∷ [])
-        × (seat.new.me ≡ (after_turn V.entries V.count seat.old.me.0 y seat.old.me.0.stage, [])) }
+    ensures view { (y : V) × (seat.old.me.1 ≡ (0, Some y) ∷ []) × (seat.new.me
+        ≡ (after_turn V.entries V.count V.kept seat.old.me.0 y seat.old.me.0.stage, [])) }
 {
     desk.table.shared.store::<Advance>(seat, 1, number + 1);
 }
 
-impl<V: Booked> Desk<V> {
+impl<V: Keeps> Desk<V> {
     /// Waits for a turn at the gate, calls the job on the value with the number of the turn,
     /// and returns what the job returns.
     /// The desk allocates nothing.
@@ -89,7 +105,7 @@ impl<V: Booked> Desk<V> {
     ) -> R
         requires desk { belongs self.now pass.old }
         requires left { 1 ≤ left_of pass.old }
-        requires job { (v : V) (n : ℕ) → n < 2 ^ 41 → V.basis v ≡ V.basis (origin_of self.now) → last_of_numbers (map V.number (V.entries v)) < n → Leaves J.FnOnce job v n (λ w. (V.basis w ≡ V.basis v) × AppendsAtMost V.number n (V.entries v) (V.entries w) × (V.count v ≤ V.count w)) }
+        requires job { (v : V) (n : ℕ) → n < 2 ^ 41 → V.basis v ≡ V.basis (origin_of self.now) → last_of_numbers (map V.number (V.entries v)) < n → Leaves J.FnOnce job v n (λ w. (V.basis w ≡ V.basis v) × AppendsAtMost V.number n (V.entries v) (V.entries w) × (V.count v ≤ V.count w) × (V.kept v ≤ V.kept w)) }
         ensures desk { belongs self.now pass.new }
         ensures turned { IsTurn J.FnOnce job self.now pass.old pass.new result }
     {
@@ -102,5 +118,25 @@ impl<V: Booked> Desk<V> {
         hand_back(self, &mut pass.seat, number);
         pass.left -= 1;
         answer
+    }
+
+    /// Takes a turn as `turn` does, after all who wait at the gate already.
+    /// Of several callers one waits there, and the others wait for that one. So a job that serves all who came
+    /// before it is called once for many of them.
+    pub fn late_turn<W: Wait, R, J: FnOnce(&mut V, u64) -> R>(
+        &self,
+        rt: &W,
+        pass: &mut Pass<V>,
+        job: J,
+    ) -> R
+        requires desk { belongs self.now pass.old }
+        requires left { 1 ≤ left_of pass.old }
+        requires job { (v : V) (n : ℕ) → n < 2 ^ 41 → V.basis v ≡ V.basis (origin_of self.now) → last_of_numbers (map V.number (V.entries v)) < n → Leaves J.FnOnce job v n (λ w. (V.basis w ≡ V.basis v) × AppendsAtMost V.number n (V.entries v) (V.entries w) × (V.count v ≤ V.count w) × (V.kept v ≤ V.kept w)) }
+        ensures desk { belongs self.now pass.new }
+        ensures turned { IsTurn J.FnOnce job self.now pass.old pass.new result }
+    {
+        let _late = self.late.lock(rt);
+        let_in(self);
+        self.turn(rt, pass, job)
     }
 }

@@ -11,14 +11,14 @@ join_seat-requires g c = (
   c.requires.table.1,
   c.requires.idle.2,
   search rules,
-  joins g.V.Booked.basis g.V.Booked.entries g.V.Booked.number g.V.Booked.count c.args.desk.now.table.shared.key _ _ _ _ c.requires.idle.0 c.requires.idle.1 c.requires.shares,
+  joins g.V.Booked.basis g.V.Booked.entries g.V.Booked.number g.V.Booked.count g.V.Keeps.kept c.args.desk.now.table.shared.key _ _ _ _ c.requires.idle.0 c.requires.idle.1 c.requires.shares,
 )
 
 pub load-requires : goal.load-requires
 load-requires g c = (
   search rules,
   search rules,
-  settles g.V.Booked.basis g.V.Booked.entries g.V.Booked.number g.V.Booked.count c.args.desk.now.table.shared.key _ _ _ _ _ _ _ (ap (λ m. m.0.stage) c.join_seat.ensures.2),
+  settles g.V.Booked.basis g.V.Booked.entries g.V.Booked.number g.V.Booked.count g.V.Keeps.kept c.args.desk.now.table.shared.key _ _ _ _ _ _ _ (ap (λ m. m.0.stage) c.join_seat.ensures.2),
 )
 
 pub returns-clause-view : goal.returns-clause-view

@@ -6,5 +6,5 @@ pub fetch_add-requires : goal.fetch_add-requires
 fetch_add-requires g c = (
   c.requires.table,
   search rules,
-  draws g.V.Booked.basis g.V.Booked.entries g.V.Booked.number g.V.Booked.count c.args.desk.now.table.shared.key _ _ _ c.requires.idle c.requires.turns,
+  draws g.V.Booked.basis g.V.Booked.entries g.V.Booked.number g.V.Booked.count g.V.Keeps.kept c.args.desk.now.table.shared.key _ _ _ c.requires.idle c.requires.turns,
 )

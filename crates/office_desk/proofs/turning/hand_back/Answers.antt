@@ -10,11 +10,11 @@ store-requires g c =
     let r = held.2 in (
       search rules,
       search rules,
-      advances g.V.Booked.basis g.V.Booked.entries g.V.Booked.number g.V.Booked.count c.args.desk.now.table.shared.key _ _ _ held.0 c.args.number r.counted _ r.kept held.1 r.holds
-          r.about r.appends r.counts refl,
+      advances g.V.Booked.basis g.V.Booked.entries g.V.Booked.number g.V.Booked.count g.V.Keeps.kept c.args.desk.now.table.shared.key _ _ _ held.0 c.args.number r.counted r.kept_then _ r.taken held.1 r.holds
+          r.about r.appends r.counts r.keeps refl,
     )
 
 pub returns-clause-view : goal.returns-clause-view
 returns-clause-view g c =
     let held = c.requires.held in
-    (held.0, held.1, c.store.ensures.2 ∙ ap (λ l. (advanced g.V.Booked.entries g.V.Booked.count c.args.seat.now.me.0 l, rest l)) held.1)
+    (held.0, held.1, c.store.ensures.2 ∙ ap (λ l. (advanced g.V.Booked.entries g.V.Booked.count g.V.Keeps.kept c.args.seat.now.me.0 l, rest l)) held.1)

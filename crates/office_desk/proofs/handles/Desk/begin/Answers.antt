@@ -11,5 +11,5 @@ new-requires g c =
     let last = c.last_number-first.ensures.last in
     let small = c.requires in
     let items = c.push_reserved.ensures.items ∙ ap (λ l. l ++ Some c.args.value ∷ []) c.in-Ok.ensures.items in
-    subst (λ l. InTurn g.V.Booked.basis g.V.Booked.entries g.V.Booked.number g.V.Booked.count about (opening (n ∷ n ∷ []) l (whole_view g.V.Booked.entries g.V.Booked.count about))) (sym items)
-    (opens g.V.Booked.basis g.V.Booked.entries g.V.Booked.number g.V.Booked.count about c.args.value n c.of-about.ensures (ap (λ k. k + 1) last) (omega (arith, last, small)) c.last_number-first.ensures.rising)
+    subst (λ l. InTurn g.V.Booked.basis g.V.Booked.entries g.V.Booked.number g.V.Booked.count g.V.Keeps.kept about (opening (n ∷ n ∷ []) l (whole_view g.V.Booked.entries g.V.Booked.count g.V.Keeps.kept about))) (sym items)
+    (opens g.V.Booked.basis g.V.Booked.entries g.V.Booked.number g.V.Booked.count g.V.Keeps.kept about c.args.value n c.of-about.ensures (ap (λ k. k + 1) last) (omega (arith, last, small)) c.last_number-first.ensures.rising)

@@ -27,12 +27,14 @@ hand_back-requires-clause-held g c =
       y,
       ap (λ m. (0, Some y) ∷ rest m.1) held.1,
       record {
-        kept = g.V.Booked.entries x;
+        taken = g.V.Booked.entries x;
         counted = g.V.Booked.count x;
+        kept_then = g.V.Keeps.kept x;
         holds = ap (λ m. m.0.stage) held.1;
         about = λ key e. left.0 ∙ taken.about key (ap (λ m. m.0.about) (sym held.1) ∙ e);
         appends = left.1;
         counts = left.2;
+        keeps = left.3;
       },
     )
 
@@ -49,12 +51,12 @@ returns-clause-turned g c =
     let back = c.hand_back.ensures.view in
     let same' = taken_out y back.0 (Some back.0) _ _ refl (there_still back.0 _ _ back.1) refl in
     let waits : View _ _ = record v { stage = Waits n } in
-    let taken = subst (λ u. IsTaken g.V.Booked.basis g.V.Booked.entries g.V.Booked.number g.V.Booked.count n u x) (ap (λ m. m.0) drawn) held.2 in
+    let taken = subst (λ u. IsTaken g.V.Booked.basis g.V.Booked.entries g.V.Booked.number g.V.Booked.count g.V.Keeps.kept n u x) (ap (λ m. m.0) drawn) held.2 in
     let on = taken.about _ c.requires.desk.1 in
     let left = (c.requires.job x n taken.small on taken.last _ (sym same)).1 _ _ c.job-answer.ensures in
     let view = ap (λ m. m.0) back.2
-    ∙ ap (λ z. after_turn g.V.Booked.entries g.V.Booked.count out z out.stage) (sym same')
-    ∙ ap (λ u. after_turn g.V.Booked.entries g.V.Booked.count u y u.stage) (ap (λ m. m.0) held.1 ∙ ap (λ m. holding g.V.Booked.entries g.V.Booked.count m.0 n x) drawn) in
+    ∙ ap (λ z. after_turn g.V.Booked.entries g.V.Booked.count g.V.Keeps.kept out z out.stage) (sym same')
+    ∙ ap (λ u. after_turn g.V.Booked.entries g.V.Booked.count g.V.Keeps.kept u y u.stage) (ap (λ m. m.0) held.1 ∙ ap (λ m. holding g.V.Booked.entries g.V.Booked.count g.V.Keeps.kept m.0 n x) drawn) in
     let above = all_from_map (λ k. k < n) g.V.Booked.number (g.V.Booked.entries x) (all_below 0 n (map g.V.Booked.number (g.V.Booked.entries x)) taken.rising taken.last) in
     let own = own_after g.V.Booked.number v.tickets v.seen (g.V.Booked.entries x) (g.V.Booked.entries y) n taken.begins above left.1 in
     let after = ap (λ u. among g.V.Booked.number u.tickets u.seen) view in
@@ -69,6 +71,7 @@ returns-clause-turned g c =
       basis = on;
       begins = (taken.begins.0, taken.begins.1);
       counts = taken.counts;
+      keeps = taken.keeps;
       tickets = ap (λ u. u.tickets) view;
       turns = (let one = c.requires.left in let fewer = ap (λ u. u.left) view in omega (arith, one, fewer));
       shares = ap (λ u. u.shares) view;
@@ -76,4 +79,6 @@ returns-clause-turned g c =
       grown = ⊎_elim (λ same. inl (same.0, after ∙ same.1)) (λ more. inr (more.0, more.1, more.2, after ∙ more.3)) own;
       found = ap (λ u. u.found) view;
       count = ap (λ u. u.count) view;
+      keeps_on = left.3;
+      kept = ap (λ u. u.kept) view;
     }
