@@ -15,8 +15,8 @@ module _ {I : Type 0} where
   pub begins_trans : (xs ys zs : List I) → Begins xs ys → Begins ys zs → Begins xs zs
   begins_trans xs ys zs a b = (a.0 ++ b.0, b.1 ∙ (ap (λ (x : List I). x ++ b.0) a.1 ∙ append_assoc xs a.0 b.0))
 
-  pub begins_more : (xs ys zs : List I) → zs ≡ xs ++ ys → Begins xs zs
-  begins_more xs ys zs e = (ys, e)
+  pub begins_front : (xs ys zs : List I) → Begins (xs ++ ys) zs → Begins xs zs
+  begins_front xs ys zs b = (ys ++ b.0, b.1 ∙ append_assoc xs ys b.0)
 
   pub nothing_more : (xs ys : List I) → ys ≡ xs → ys ≡ xs ++ []
   nothing_more xs ys same = same ∙ sym (append-nil xs)

@@ -1,4 +1,5 @@
 mod Bits
-mod Counting
+pub mod Counting
+mod Later
 pub mod Linked
 pub mod Rows

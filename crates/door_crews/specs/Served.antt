@@ -42,21 +42,21 @@ AreAllMerged [] zs = zs ≡ []
 AreAllMerged {I} (xs ∷ xss) zs = (rest : List I) × AreMerged xs rest zs × AreAllMerged xss rest
 
 -- `Answers place token ask answered added`: after the entries of the place the ask is answered so, and adds these.
--- `Unanswers place token ask fault`:
--- there it may stay unanswered with this fault.
-module _ {I : Type 0} (Answers : List I → Option (List ℕ) → Ask → Answered → List I → Type 0) (Unanswers : List I → Option (List ℕ) → Ask → Fault → Type 0) where
-  -- One message after the history A, of a link that is served to the history B:
+-- `Unanswers place token ask fault added`:
+-- there it may stay unanswered with this fault, though it added these.
+-- When all has ended, so many entries of the history are kept, from the oldest on.
+module _ {I : Type 0} (Answers : List I → Option (List ℕ) → Ask → Answered → List I → Type 0) (Unanswers : List I → Option (List ℕ) → Ask → Fault → List I → Type 0) (kept : ℕ) where
+  -- One message after the history A:
   -- what came of it, the entries that it added, how many failures of the keeper it reported, and the history that it
-  -- left. An ask is put at a place that begins with A.
-  -- An answer leaves that place and what it added;
-  -- without an answer nothing is added, and A stays.
-  abbrev pub IsPlaced : List I → List I → Item → Outcome → List I → ℕ → List I → Type 0
-  IsPlaced A B item wired added n behind = IsRefusal item.verdict × (added ≡ []) × (n ≡ 0) × (behind ≡ A)
-  IsPlaced A B item unread added n behind = (item.reads_body ≡ true) × (added ≡ []) × (n ≡ 0) × (behind ≡ A)
-  IsPlaced A B item (heard (Ok answered)) added n behind = (n ≡ 0)
+  -- left. An ask is put at a place that begins with A, and leaves that place and what it added.
+  -- What is answered is kept, and so is all that the answer could have seen.
+  abbrev pub IsPlaced : List I → Item → Outcome → List I → ℕ → List I → Type 0
+  IsPlaced A item wired added n behind = IsRefusal item.verdict × (added ≡ []) × (n ≡ 0) × (behind ≡ A)
+  IsPlaced A item unread added n behind = (item.reads_body ≡ true) × (added ≡ []) × (n ≡ 0) × (behind ≡ A)
+  IsPlaced A item (heard (Ok answered)) added n behind = (n ≡ 0) × (length behind ≤ kept)
       × IsAsked item.verdict (λ token ask. (place : List I) × Begins A place × Answers place token ask answered added × (behind ≡ place ++ added))
-  IsPlaced A B item (heard (Err fault)) added n behind = (added ≡ []) × (n ≡ failures_of fault) × (behind ≡ A)
-      × IsAsked item.verdict (λ token ask. (place : List I) × Begins A place × Begins place B × Unanswers place token ask fault)
+  IsPlaced A item (heard (Err fault)) added n behind = (n ≡ failures_of fault)
+      × IsAsked item.verdict (λ token ask. (place : List I) × Begins A place × Unanswers place token ask fault added × (behind ≡ place ++ added))
 
   -- The messages are answered one after another, from the history A to the history B,
   -- with these entries and f failures of the keeper.
@@ -65,7 +65,7 @@ module _ {I : Type 0} (Answers : List I → Option (List ℕ) → Ask → Answer
   IsServing A [] (outcome ∷ outcomes) E f B = ⊥
   IsServing A (item ∷ items) [] E f B = ⊥
   IsServing A (item ∷ items) (outcome ∷ outcomes) E f B = (added : List I) × (n : ℕ) × (behind : List I) × (more : List I) × (k : ℕ)
-      × IsPlaced A B item outcome added n behind × IsServing behind items outcomes more k B × (E ≡ added ++ more) × (f ≡ n + k)
+      × IsPlaced A item outcome added n behind × IsServing behind items outcomes more k B × (E ≡ added ++ more) × (f ≡ n + k)
 
   module _ {D L : Type 0} (of : DoorLooks D L) where
     -- A link, as its session found it and left it, is served from the history A to the history B, with the entries E

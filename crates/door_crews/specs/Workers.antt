@@ -22,11 +22,13 @@ module _ {I : Type 0} where
     pub seen : q.knows.seen ≡ p.knows.seen
     pub own : q.knows.own ≡ p.knows.own
     pub count : q.knows.count ≡ p.knows.count
+    pub kept : q.knows.kept ≡ p.knows.kept
     pub failed : q.failed ≡ p.failed
     pub new_shares : w.knows.shares ≡ 1
     pub new_seen : w.knows.seen ≡ p.knows.seen
     pub new_own : w.knows.own ≡ []
     pub new_count : w.knows.count ≡ p.knows.count
+    pub new_kept : w.knows.kept ≡ p.knows.kept
     pub new_failed : w.failed ≡ false
 
   -- The worker w is taken into the crew m, which is then p.
@@ -36,18 +38,21 @@ module _ {I : Type 0} where
     pub own : AreMerged m.knows.own w.knows.own p.knows.own
     pub more : m.knows.count ≤ p.knows.count
     pub most : w.knows.count ≤ p.knows.count
+    pub more_kept : m.knows.kept ≤ p.knows.kept
+    pub most_kept : w.knows.kept ≤ p.knows.kept
     pub failed : p.failed ≡ m.failed || w.failed
 
-module _ {I : Type 0} (Answers : List I → Option (List ℕ) → Ask → Answered → List I → Type 0) (Unanswers : List I → Option (List ℕ) → Ask → Fault → Type 0) {D L : Type 0} (of : DoorLooks D L) where
+module _ {I : Type 0} (Answers : List I → Option (List ℕ) → Ask → Answered → List I → Type 0) (Unanswers : List I → Option (List ℕ) → Ask → Fault → List I → Type 0) {D L : Type 0} (of : DoorLooks D L) where
   -- The worker of this number served a door: from what it had seen to what it has seen then.
   -- With it come the entries by which its own grew, and the failures of the keeper by which the count rose.
   -- It reports whether the door failed.
   pub record HasWorked (number : ℕ) (door door' : D) (w w' : Worker I) : Type 0 where
     pub entries : List I
     pub failures : ℕ
-    pub served : DoorServed Answers Unanswers of door door' w.knows.seen entries failures w'.knows.seen
+    pub served : DoorServed Answers Unanswers w'.knows.kept of door door' w.knows.seen entries failures w'.knows.seen
     pub own : w'.knows.own ≡ w.knows.own ++ entries
     pub rose : RoseBy failures w.knows.count w'.knows.count
+    pub keeps : w.knows.kept ≤ w'.knows.kept
     pub begins : Begins w.knows.seen w'.knows.seen
     pub shares : w'.knows.shares ≡ w.knows.shares
     pub fails : w'.failed ≡ true → Rose (of.faults door) (of.faults door')
@@ -57,10 +62,11 @@ module _ {I : Type 0} (Answers : List I → Option (List ℕ) → Ask → Answer
   pub record IsRow (p : Worker I) (doors doors' : List D) (p' : Worker I) : Type 0 where
     pub entries : List (List I)
     pub failures : List ℕ
-    pub each : EachDoor Answers Unanswers of p.knows.seen p.knows.count doors doors' entries failures p'.knows.seen p'.knows.count
+    pub each : EachDoor Answers Unanswers p'.knows.kept of p.knows.seen p.knows.count doors doors' entries failures p'.knows.seen p'.knows.count
     pub own : AreAllMerged entries p'.knows.own
     pub begins : Begins p.knows.seen p'.knows.seen
     pub counts : p.knows.count ≤ p'.knows.count
+    pub keeps : p.knows.kept ≤ p'.knows.kept
     pub shares : p'.knows.shares ≡ p.knows.shares
     pub fails : p'.failed ≡ true → SomeRose of.faults doors doors'
     pub ends : p'.failed ≡ false → AllEnded of.faults of.to_come doors doors'

@@ -3,6 +3,7 @@ ghost use Rattle.std.specs.Prelude.{◌≡◌, ◌<◌, ℕ, List, true, map, []
 ghost use Rattle.office_base.specs.Numbered.{last_of_numbers, rises};
 
 use office_base::{Booked, OutOfMemory};
+use office_desk::Keeps;
 use std::alloc::Global;
 
 /// A row: the number of the turn in which it was written, who wrote it, and which of the writer's rows it is.
@@ -41,6 +42,11 @@ impl Booked for Book {
     fn last_number(&self) -> u64 {
         self.last
     }
+}
+
+/// It is in memory alone, so a crash leaves none of its rows.
+impl Keeps for Book {
+    ghost kept = { λ b. 0 };
 }
 
 impl Book {
