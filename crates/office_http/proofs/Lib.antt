@@ -1,5 +1,6 @@
 mod Numbers
 mod Kept
+mod Settling
 mod Turns
 mod Handing
 mod Sending

@@ -1,5 +1,5 @@
 -- An ask that is put to an office with its token, and what comes of it.
-use Rattle.std.specs.Prelude.{◌≡◌, ◌≤◌, ◌++◌, ℕ, Bool, true, false, List, Option, Some, None, Result, Ok, Err, IfOk}
+use Rattle.std.specs.Prelude.{◌≡◌, ◌≤◌, ◌⊎◌, ◌++◌, ℕ, [], Bool, true, false, List, Option, Some, None, Result, Ok, Err, IfOk}
 use Rattle.office_base.specs.Outside.{Rose}
 use Rattle.office_base.specs.declared.asks.Ask.{Ask}
 use Rattle.office_base.specs.declared.asks.By.{By}
@@ -23,6 +23,7 @@ use Rattle.shown_replies.specs.Shown.{round_shown, rows_shown}
 use Rattle.http_wire.specs.declared.faults.Fault.{Fault}
 use Rattle.http_wire.specs.declared.faults.Fault.TheVariants.{Keeper, Memory}
 use Rattle.http_sessions.specs.declared.counter.Answered.{Answered}
+use Rattle.office_http.specs.Keeping.{SettlesOffice}
 
 -- ---- who asks what
 
@@ -75,15 +76,20 @@ pub record IsUnanswered (facts : SeasonFacts) (room : Bool) (place : List Entry)
 abbrev pub AnswersAt : SeasonFacts → List Entry → Option (List ℕ) → Ask → Answered → List Entry → Type 0
 AnswersAt facts place token ask answered added = IsAnsweredAt facts place (request_of facts token ask) answered added
 
-abbrev pub UnanswersAt : SeasonFacts → Bool → List Entry → Option (List ℕ) → Ask → Fault → Type 0
-UnanswersAt facts room place token ask fault = IsUnanswered facts room place (request_of facts token ask) fault
+-- Without an answer nothing was added; or, over a keeper that may let rows wait, the ask was answered and added these,
+-- but what it had seen could not be kept, so that the answer was held back.
+abbrev pub UnanswersAt : SeasonFacts → Bool → Type 0 → List Entry → Option (List ℕ) → Ask → Fault → List Entry → Type 0
+UnanswersAt facts room waits place token ask fault added =
+    ((added ≡ []) × IsUnanswered facts room place (request_of facts token ask) fault)
+    ⊎ (waits × ((answered : Answered) × AnswersAt facts place token ask answered added))
 
 -- ---- one ask of an office
 
 module _ {K : Type 0} (seen : K → KeeperView) where
   -- The office answered a request under this number. The move begins where the last one ended.
   -- The answer is that of the move's reply.
-  -- What is newly accepted is kept and is the last entry, and the keeper did not fail.
+  -- What is newly accepted is in the keeper's tables and is the last entry, and the keeper did not fail.
+  -- If rows then wait to be kept, a crash leaves the same tables as before.
   pub record HasAnswered (number : ℕ) (request : Request) (answered : Answered) (old new : OfficeView K) : Type 0 where
     pub reply : Reply
     pub history : IsHistory old.season old.entries old.state
@@ -93,11 +99,13 @@ module _ {K : Type 0} (seen : K → KeeperView) where
     pub stands : Stand new.season new.state (seen new.keeper).tables
     pub told_before : IsTold (seen new.keeper).tables → IsTold (seen old.keeper).tables
     pub answer : IsAnswerOf old.season new.state reply answered
+    pub stays : (seen new.keeper).settled ≡ false → AreTold (seen old.keeper).kept (seen new.keeper).kept
     pub room : (seen new.keeper).holds_room ≡ (seen old.keeper).holds_room
     pub steady : (seen new.keeper).faults ≡ (seen old.keeper).faults
 
   -- The office did not answer a request: the office and the visible tables of its keeper are unchanged.
   -- The keeper failed if and only if that is the fault.
+  -- If rows wait to be kept, a crash leaves the same tables as before.
   pub record HasNotAnswered (request : Request) (fault : Fault) (old new : OfficeView K) : Type 0 where
     pub unanswered : IsUnanswered old.season (seen old.keeper).holds_room old.entries request fault
     pub entries : new.entries ≡ old.entries
@@ -105,6 +113,7 @@ module _ {K : Type 0} (seen : K → KeeperView) where
     pub season : new.season ≡ old.season
     pub told : AreTold (seen old.keeper).tables (seen new.keeper).tables
     pub told_before : IsTold (seen new.keeper).tables → IsTold (seen old.keeper).tables
+    pub stays : (seen new.keeper).settled ≡ false → AreTold (seen old.keeper).kept (seen new.keeper).kept
     pub room : (seen new.keeper).holds_room ≡ (seen old.keeper).holds_room
     pub count : (seen old.keeper).faults ≤ (seen new.keeper).faults
     pub cause : fault ≡ Keeper → Rose (seen old.keeper).faults (seen new.keeper).faults
@@ -114,3 +123,11 @@ module _ {K : Type 0} (seen : K → KeeperView) where
   abbrev pub AsksOffice : ℕ → Option (List ℕ) → Ask → Result Answered Fault → OfficeView K → OfficeView K → Type 0
   AsksOffice number token ask (Ok answered) old new = HasAnswered number (request_of old.season token ask) answered old new
   AsksOffice number token ask (Err fault) old new = HasNotAnswered (request_of old.season token ask) fault old new
+
+  -- The same, and what waits is settled in the same call: an answer is given once all is kept. If settling fails,
+  -- the ask has no answer, though the office has what it added.
+  abbrev pub AsksSettled : ℕ → Option (List ℕ) → Ask → Result Answered Fault → OfficeView K → OfficeView K → Type 0
+  AsksSettled number token ask (Ok answered) old new = HasAnswered number (request_of old.season token ask) answered old new × ((seen new.keeper).settled ≡ true)
+  AsksSettled number token ask (Err fault) old new = HasNotAnswered (request_of old.season token ask) fault old new
+      ⊎ ((mid : OfficeView K) × (answered : Answered) × HasAnswered number (request_of old.season token ask) answered old mid
+      × SettlesOffice seen (Err fault) mid new)

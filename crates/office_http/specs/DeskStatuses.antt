@@ -15,6 +15,6 @@ at_place : (facts : SeasonFacts) (place : List Entry) (token : Option (List ℕ)
 at_place facts place token ask answered added at = asks.replied facts at.new at.reply answered at.answer
 
 -- the status of an answer is that of a reply
-pub replied : (facts : SeasonFacts) (room : Bool) (before : Known Entry) (token : Option (List ℕ)) (ask : Ask) (answered : Answered) (after : Known Entry)
-    → AsksInTurn facts room before token ask (Ok answered) after → is_reply_status answered.status ≡ true
-replied facts room before token ask answered after asked = at_place facts asked.0 token ask answered asked.1 asked.3
+pub replied : (facts : SeasonFacts) (room : Bool) (waits : Type 0) (before : Known Entry) (token : Option (List ℕ)) (ask : Ask) (answered : Answered) (after : Known Entry)
+    → AsksInTurn facts room waits before token ask (Ok answered) after → is_reply_status answered.status ≡ true
+replied facts room waits before token ask answered after asked = at_place facts asked.0 token ask answered asked.1 asked.3

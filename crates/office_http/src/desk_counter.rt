@@ -1,7 +1,9 @@
 // An office at a desk as a counter.
-ghost use Rattle.std.specs.Prelude.{◌≡◌, ◌<◌};
+ghost use Rattle.std.specs.Prelude.{◌≡◌, ◌<◌, ◌≤◌, ◌+◌, option_copied};
 ghost use Rattle.office_http.specs.Asking.{AsksOffice, token_of};
-ghost use Rattle.office_desk.specs.Words.{belongs};
+ghost use Rattle.office_http.specs.Keeping.{CountsKept, MayWait, SettlesStood};
+ghost use Rattle.office_http.specs.Knowing.{PutsInTurn, SettlesInTurn, known_of};
+ghost use Rattle.office_desk.specs.Words.{belongs, left_of, origin_of};
 ghost use Rattle.proceedings.specs.Proceeding.{last_of};
 
 use crate::stood::{DeskOffice, TablesBefore};
@@ -10,20 +12,21 @@ use http_sessions::{Answered, Counter};
 use http_wire::Fault;
 use keeper_mem::Keeper;
 use office_base::Ask;
-use office_desk::{Booked, Desk, Pass};
+use office_desk::{Desk, Keeps, Pass};
 use std::alloc::Global;
 use std::sync::Wait;
 
-/// A desk with a pass to it: each ask is one turn, so as many asks are left as the pass has turns.
+/// A desk with a pass to it. Each ask is one turn, and one more if what its answer could have seen waits to be kept:
+/// one turn keeps what waits of all who had their turn before it. So half as many asks are left as the pass has turns.
 #[derive(Drop)]
-pub struct DeskCounter<'a, V: Booked, R: Wait> {
+pub struct DeskCounter<'a, V: Keeps, R: Wait> {
     pub rt: &'a R,
     pub desk: &'a Desk<V>,
     pub pass: &'a mut Pass<V>,
     pub ghost same_desk: { belongs desk.now pass.now },
 }
 
-impl<'a, V: Booked, R: Wait> DeskCounter<'a, V, R> {
+impl<'a, V: Keeps, R: Wait> DeskCounter<'a, V, R> {
     /// Returns a counter at this desk, with a pass of it. It allocates nothing.
     pub fn new(rt: &'a R, desk: &'a Desk<V>, pass: &'a mut Pass<V>) -> DeskCounter<'a, V, R>
         requires { belongs desk.now pass.old }
@@ -35,32 +38,88 @@ impl<'a, V: Booked, R: Wait> DeskCounter<'a, V, R> {
     }
 }
 
+/// Puts an ask with its token to the office in one turn. Returns also whether nothing waits to be kept then.
+fn put_in_turn<K: Keeper, B: TablesBefore, R: Wait>(
+    rt: &R,
+    desk: &Desk<DeskOffice<K, B>>,
+    pass: &mut Pass<DeskOffice<K, B>>,
+    alloc: Global,
+    token: Option<&[u8]>,
+    ask: &Ask,
+) -> (Result<Answered, Fault>, bool)
+    requires desk { belongs desk.now pass.old }
+    requires left { 1 ≤ left_of pass.old }
+    ensures desk { belongs desk.now pass.new }
+    ensures left { left_of pass.old ≡ left_of pass.new + 1 }
+    ensures put { PutsInTurn (origin_of desk.now).office.season
+        (K.seen (origin_of desk.now).office.keeper).holds_room (MayWait K.seen) (known_of pass.old)
+        (option_copied token.entry) ask.now result.0 result.1 (known_of pass.new) }
+{
+    let (has_token, bytes) = token_parts(token);
+    desk.turn(
+        rt,
+        pass,
+        |stood: &mut DeskOffice<K, B>, number: u64| -> (Result<Answered, Fault>, bool)
+            requires { last_of stood.old.office.entries < number }
+            ensures { AsksOffice K.seen number (token_of has_token bytes.entry.now) ask.entry.now
+                result.0 stood.old.office stood.new.office × CountsKept K.seen stood.new.office
+                stood.old.kept result.1 stood.new.kept × (stood.old.kept ≤ stood.new.kept) }
+        { stood.put(alloc, number, has_token, bytes, ask) },
+    )
+}
+
+/// Keeps in one turn what waits of the office, unless another turn has kept it by then. Who waits for a turn goes first,
+/// so that one sync keeps what they put as well.
+fn settle_in_turn<K: Keeper, B: TablesBefore, R: Wait>(
+    rt: &R,
+    desk: &Desk<DeskOffice<K, B>>,
+    pass: &mut Pass<DeskOffice<K, B>>,
+) -> Result<(), Fault>
+    requires desk { belongs desk.now pass.old }
+    requires left { 1 ≤ left_of pass.old }
+    ensures desk { belongs desk.now pass.new }
+    ensures left { left_of pass.old ≡ left_of pass.new + 1 }
+    ensures settled { SettlesInTurn (known_of pass.old) result (known_of pass.new) }
+{
+    desk.late_turn(
+        rt,
+        pass,
+        |stood: &mut DeskOffice<K, B>, number: u64| -> Result<(), Fault>
+            requires { last_of stood.old.office.entries < number }
+            ensures { SettlesStood K.seen result stood.old stood.new }
+        {
+            let _turn = number;
+            stood.settle()
+        },
+    )
+}
+
 impl<K: Keeper, B: TablesBefore, R: Wait> Counter for DeskCounter<'_, DeskOffice<K, B>, R> {
-    ghost use Rattle.std.specs.Prelude.{◌≡◌};
+    ghost use Rattle.std.specs.Prelude.{◌≡◌, ◌/◌};
+    ghost use Rattle.office_http.specs.Keeping.{MayWait};
     ghost use Rattle.office_http.specs.Knowing.{AsksInTurn, known_of};
     ghost use Rattle.office_http.specs.DeskStatuses.{replied};
     ghost use Rattle.office_desk.specs.Words.{left_of, origin_of};
 
-    ghost asks_left = { λ c. left_of c.pass.now };
+    ghost asks_left = { λ c. left_of c.pass.now / 2 };
 
     ghost lender = { λ c. c.pass.ghost_name };
 
     ghost answers = { λ c token ask answer c'. (c'.desk.now ≡ c.desk.now)
-        × AsksInTurn (origin_of c.desk.now).season (K.seen (origin_of c.desk.now).keeper).holds_room (known_of c.pass.now) token ask answer (known_of c'.pass.now) };
+        × AsksInTurn (origin_of c.desk.now).office.season (K.seen (origin_of c.desk.now).office.keeper).holds_room (MayWait K.seen) (known_of c.pass.now) token ask answer (known_of c'.pass.now) };
 
     fn ask(&mut self, alloc: Global, token: Option<&[u8]>, ask: &Ask) -> Result<Answered, Fault> {
-        let (has_token, bytes) = token_parts(token);
-        self.desk.turn(
-            self.rt,
-            self.pass,
-            |office: &mut DeskOffice<K, B>, number: u64| -> Result<Answered, Fault>
-                requires { last_of office.old.entries < number }
-                ensures { AsksOffice K.seen number (token_of has_token bytes.entry.now)
-                    ask.entry.now result office.old office.new }
-            { office.put(alloc, number, has_token, bytes, ask) },
-        )
+        let (answer, settled) = put_in_turn(self.rt, self.desk, self.pass, alloc, token, ask);
+        let answered = answer?;
+        if settled {
+            return Ok(answered);
+        }
+        match settle_in_turn(self.rt, self.desk, self.pass) {
+            Ok(()) => Ok(answered),
+            Err(fault) => Err(fault),
+        }
     }
 
-    ghost replied = { λ before token ask answered after asked. replied (origin_of before.desk.now).season (K.seen (origin_of before.desk.now).keeper).holds_room
+    ghost replied = { λ before token ask answered after asked. replied (origin_of before.desk.now).office.season (K.seen (origin_of before.desk.now).office.keeper).holds_room (MayWait K.seen)
         (known_of before.pass.now) token ask answered (known_of after.pass.now) asked.1 };
 }

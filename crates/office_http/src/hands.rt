@@ -5,6 +5,7 @@ ghost use Rattle.office_http.specs.Knowing.{known_of};
 ghost use Rattle.door_crews.specs.Served.{telling};
 ghost use Rattle.door_crews.specs.Workers.{IsHired, IsTakenIn, HasWorked};
 ghost use Rattle.office_http.specs.Asking.{AnswersAt, UnanswersAt};
+ghost use Rattle.office_http.specs.Keeping.{MayWait};
 ghost use Rattle.office_desk.specs.Words.{belongs, left_of, origin_of, shares_of};
 ghost use Rattle.office_http.specs.Hands.{worker_of, most_turns};
 
@@ -12,17 +13,17 @@ use crate::{DeskCounter, DeskOffice, TablesBefore};
 use door_crews::Crew;
 use http_sessions::{Buffers, Gate, serve_door};
 use keeper_mem::Keeper;
-use office_desk::{Booked, Desk, Pass};
+use office_desk::{Desk, Keeps, Pass};
 use office_links::Door;
 use std::alloc::Global;
 use std::sync::Wait;
 
-/// The turns of a worker: a hundred for each of a hundred thousand connections.
-const TURNS: u64 = 10_000_000;
+/// The turns of a worker: two for each of a hundred messages of a hundred thousand connections.
+const TURNS: u64 = 20_000_000;
 
 /// What all workers share.
 #[derive(Drop)]
-pub struct Shared<'a, V: Booked, G> {
+pub struct Shared<'a, V: Keeps, G> {
     pub alloc: Global,
     pub desk: &'a Desk<V>,
     pub gate: &'a G,
@@ -30,7 +31,7 @@ pub struct Shared<'a, V: Booked, G> {
 
 /// A worker: a pass to the desk, and whether a door failed that was served by it or by a worker that it took in.
 #[derive(Drop)]
-pub struct DeskWorker<V: Booked> {
+pub struct DeskWorker<V: Keeps> {
     pub pass: Pass<V>,
     pub failed: bool,
 }
@@ -45,8 +46,8 @@ impl<K: Keeper, B: TablesBefore, G: Gate, D: Door> Crew<Shared<'_, DeskOffice<K,
 
     ghost after_hire = { λ shop p q w. IsHired (worker_of p) (worker_of q) (worker_of w) };
 
-    ghost after_work = { λ shop number door door' w w'. HasWorked (AnswersAt (origin_of shop.desk.now).season)
-        (UnanswersAt (origin_of shop.desk.now).season (K.seen (origin_of shop.desk.now).keeper).holds_room)
+    ghost after_work = { λ shop number door door' w w'. HasWorked (AnswersAt (origin_of shop.desk.now).office.season)
+        (UnanswersAt (origin_of shop.desk.now).office.season (K.seen (origin_of shop.desk.now).office.keeper).holds_room (MayWait K.seen))
         (telling D.Door D.Conn.Link)
         number door door' (worker_of w) (worker_of w') };
 

@@ -1,8 +1,9 @@
 // An ask with its token, put to an office.
-ghost use Rattle.std.specs.Prelude.{◌≡◌, ◌<◌, option_copied};
+ghost use Rattle.std.specs.Prelude.{◌≡◌, ◌<◌, ◌↔◌, option_copied};
 ghost use Rattle.kept_rows.specs.Tables.{IsTold};
 ghost use Rattle.office_http.specs.Asking.{AsksOffice, IsAnswerOf, request_of, token_of};
 ghost use Rattle.office_http.specs.Bodies.{AreBodies};
+ghost use Rattle.office_http.specs.Keeping.{SettlesOffice};
 ghost use Rattle.proceedings.specs.Proceeding.{last_of};
 ghost use Rattle.shown_replies.specs.Shown.{CameOf};
 
@@ -56,8 +57,32 @@ pub fn put_to_office<K: Keeper>(
     let request = request_by(office, has_token, token, ask);
     match office.handle(alloc, number, &request) {
         Ok(reply) => Ok(answer_of(alloc, office, bodies, &reply)),
-        Err(OfficeFault::KeeperFault) => Err(Fault::Keeper),
-        Err(OfficeFault::OutOfMemory) => Err(Fault::Memory),
+        Err(fault) => Err(told_fault(fault)),
+    }
+}
+
+/// Keeps what waits of an office, unless nothing does. It accepts nothing.
+/// After a fault what waited still waits, and a crash may take it back.
+pub(crate) fn settle_office<K: Keeper>(office: &mut Office<K>) -> Result<(), Fault>
+    ensures { SettlesOffice K.seen result office.old office.new }
+{
+    if office.is_settled() {
+        return Ok(());
+    }
+    match office.settle() {
+        Ok(()) => Ok(()),
+        Err(fault) => Err(told_fault(fault)),
+    }
+}
+
+/// Returns the fault of an office as it is told to those who ask.
+pub(crate) fn told_fault(fault: OfficeFault) -> Fault
+    ensures keeper { (result ≡ Fault.Keeper) ↔ (fault ≡ OfficeFault.KeeperFault) }
+    ensures memory { (result ≡ Fault.Memory) ↔ (fault ≡ OfficeFault.OutOfMemory) }
+{
+    match fault {
+        OfficeFault::KeeperFault => Fault::Keeper,
+        OfficeFault::OutOfMemory => Fault::Memory,
     }
 }
 

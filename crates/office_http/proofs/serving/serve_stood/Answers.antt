@@ -12,8 +12,8 @@ returns-in-Ok-begin-clause-served g c =
     let L = g.D.Conn.Link in
     let office = c.args.office in
     let s = c.serve_desk in
-    let origin : origin_of c.in-Ok-begin.desk ≡ office = search rules in
-    subst (λ (o : OfficeView _). Serves g.K.Keeper.seen (telling D L) o s.result.office s.result.door_failed c.args.doors.now s.new.doors) origin s.ensures.served
+    let origin : (origin_of c.in-Ok-begin.desk).office ≡ office = search rules in
+    subst (λ (o : OfficeView _). Serves g.K.Keeper.seen (telling D L) o s.result.office s.result.door_failed s.result.settled c.args.doors.now s.new.doors) origin s.ensures.served
 
 pub returns-in-Ok-begin-clause-told_before : goal.returns-in-Ok-begin-clause-told_before
-returns-in-Ok-begin-clause-told_before g c = λ told. subst IsTold (sym c.requires.tells) (c.serve_desk.ensures.told told)
+returns-in-Ok-begin-clause-told_before g c = λ told. subst IsTold (sym c.requires.tells.0) (c.serve_desk.ensures.told told)

@@ -12,10 +12,12 @@ returns-clause-after_hire g c =
       seen = s.seen;
       own = s.own;
       count = s.count;
+      kept = s.kept;
       failed = refl;
       new_shares = s.new_shares;
       new_seen = s.new_seen;
       new_own = ap (λ t. among (λ e. e.number) t (seen_of c.in-Ok.pass)) s.new_tickets ∙ none_among (λ e. e.number) (seen_of c.in-Ok.pass);
       new_count = s.new_count;
+      new_kept = s.new_kept;
       new_failed = refl;
     }
