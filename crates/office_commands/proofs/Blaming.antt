@@ -89,7 +89,7 @@ blames serves source source_now sink sink_now keeper keeper_now doors result no_
   sink_steady = sink_same;
   keeper_steady = λ other. keeper_same;
   keeper_early = λ is. early result (keeper_now ≡ keeper) is keeper_same;
-  doors_steady = λ broke wrote short. refl;
+  doors_steady = λ broke wrote short held. refl;
   keeper_count = count;
 }
 
@@ -104,7 +104,7 @@ counted faults (door ∷ doors) (door' ∷ doors') (inr later) = inr (counted fa
 pub serve_blames : {D : Type 0} (faults : D → ℕ) (serves : Type 0) (source source_now sink sink_now keeper keeper_now : ℕ) (doors doors' : List D) (result : Status) → serves
     → (result ≡ ReadFault → Rose source source_now) → (result ≡ WriteFault → Rose sink sink_now) → (result ≡ KeeperFault → Rose keeper keeper_now) → (result ≡ DoorFault → SomeRose faults doors doors')
     → (result ≢ ReadFault → result ≢ WriteFault → source_now ≡ source) → (result ≢ WriteFault → sink_now ≡ sink) → ((result ≡ BadInput) ⊎ ((result ≡ ReadFault) ⊎ (result ≡ Differs)) → keeper_now ≡ keeper)
-    → (result ≢ DoorFault → result ≢ WriteFault → result ≢ OutOfMemory → map faults doors' ≡ map faults doors) → keeper ≤ keeper_now
+    → (result ≢ DoorFault → result ≢ WriteFault → result ≢ OutOfMemory → result ≢ KeeperFault → map faults doors' ≡ map faults doors) → keeper ≤ keeper_now
     → Blames serves result (record { source = source; sink = sink; keeper = keeper; doors = map faults doors }) (record { source = source_now; sink = sink_now; keeper = keeper_now; doors = map faults doors' })
 serve_blames faults serves source source_now sink sink_now keeper keeper_now doors doors' result is read write failed broke source_same sink_same keeper_same doors_same count = record {
   read = read;
@@ -115,7 +115,7 @@ serve_blames faults serves source source_now sink sink_now keeper keeper_now doo
   sink_steady = sink_same;
   keeper_steady = λ other. absurd (other is);
   keeper_early = keeper_same;
-  doors_steady = doors_same;
+  doors_steady = λ broke wrote short held. doors_same broke wrote short (held is);
   keeper_count = count;
 }
 
@@ -130,6 +130,6 @@ blames_as serves spelled result old new more is = record {
   sink_steady = is.sink_steady;
   keeper_steady = λ other. is.keeper_steady (λ here. other (more here));
   keeper_early = is.keeper_early;
-  doors_steady = is.doors_steady;
+  doors_steady = λ broke wrote short held. is.doors_steady broke wrote short (λ here. held (more here));
   keeper_count = is.keeper_count;
 }

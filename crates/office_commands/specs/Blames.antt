@@ -15,7 +15,7 @@ pub record Counts : Type 0 where
 -- The status reports a fault only if that object failed: its count rose.
 -- If it reports no fault of an object, that count is unchanged.
 -- Only a fault of the sink can hide one of the source or of the keeper.
--- A fault of the sink or a lack of memory can hide one of a door.
+-- A fault of the sink or a lack of memory can hide one of a door, and so can one of the keeper if an office is served.
 -- An office that is served reports the keeper's faults in its replies,
 -- so there the keeper's count may rise under other statuses.
 -- It is unchanged if the status reports a fault that comes before the office answers.
@@ -28,5 +28,5 @@ pub record Blames (serves : Type 0) (status : Status) (old new : Counts) : Type 
   pub sink_steady : status ≢ WriteFault → new.sink ≡ old.sink
   pub keeper_steady : (serves → ⊥) → status ≢ KeeperFault → status ≢ WriteFault → new.keeper ≡ old.keeper
   pub keeper_early : (status ≡ BadInput) ⊎ ((status ≡ ReadFault) ⊎ (status ≡ Differs)) → new.keeper ≡ old.keeper
-  pub doors_steady : status ≢ DoorFault → status ≢ WriteFault → status ≢ OutOfMemory → new.doors ≡ old.doors
+  pub doors_steady : status ≢ DoorFault → status ≢ WriteFault → status ≢ OutOfMemory → (serves → status ≢ KeeperFault) → new.doors ≡ old.doors
   pub keeper_count : old.keeper ≤ new.keeper

@@ -9,7 +9,7 @@ use Rattle.kept_rows.specs.Tables.{Tables, still}
 use Rattle.keeper_mem.specs.declared.keeper.Keeper.{Ghosts as KeeperGhosts}
 use Rattle.door_crews.specs.Ending.{SomeRose}
 use Rattle.door_crews.specs.Served.{telling}
-use Rattle.office_commands.specs.Doors.{Doors, doors_of}
+use Rattle.office_commands.specs.Doors.{Doors, doors_seen}
 use Rattle.office_commands.specs.Blames.{Counts}
 
 -- A call: what it found of the outside, and what it left.
@@ -44,7 +44,7 @@ call_of s k p d l source source' sink sink' keeper keeper' doors doors' = record
   tables = (p.seen keeper).tables;
   now_tables = (p.seen keeper').tables;
   same_keeper = keeper' ≡ keeper;
-  doors = doors_of (telling d l) (p.seen keeper).holds_room (p.seen keeper).faults (p.seen keeper').faults doors doors';
+  doors = doors_seen d l p.seen keeper keeper' doors doors';
   all_came = AllByRecursion (λ door. d.to_come door ≡ 0) doors';
   coming = map d.to_come doors;
   still_coming = map d.to_come doors';

@@ -24,7 +24,7 @@ lone_call old new tables now_tables = record {
   tables = tables;
   now_tables = now_tables;
   same_keeper = now_tables ≡ tables;
-  doors = record { spared = Unit {0}; served = λ facts before after failed. ⊥ };
+  doors = record { spared = Unit {0}; served = λ facts before after failed. ⊥; lost = λ facts before after failed. ⊥ };
   all_came = Unit {0};
   coming = [];
   still_coming = [];

@@ -1,6 +1,6 @@
 -- The command `serve`: an office begins with a season that is read, or resumes from what the keeper holds, and is
 -- served at doors. Its output is how far the office is at the end, and how many entries its history has.
-use Rattle.std.specs.Prelude.{◌≡◌, ◌⊎◌, ℕ, Bool, true, false, List, [], ◌++◌, Option, codes, length}
+use Rattle.std.specs.Prelude.{◌≡◌, ◌⊎◌, ℕ, Bool, true, false, List, [], ◌++◌, Option, Result, Ok, Err, codes, length}
 use Rattle.std.specs.Fmt.{decimal}
 use Rattle.office_base.specs.FaultLines.{memory_line}
 use Rattle.office_base.specs.Outside.{Rose}
@@ -25,8 +25,9 @@ use Rattle.command_answers.specs.Answers.{Tells}
 use Rattle.command_answers.specs.Writes.{IsTextOf, Writes}
 use Rattle.command_answers.specs.declared.status.Status.{Status}
 use Rattle.command_answers.specs.declared.status.Status.TheVariants.{Ok as Done, BadInput, OutOfMemory}
+use Rattle.http_wire.specs.declared.faults.Fault.{Fault}
 use Rattle.office_commands.specs.Doors.{Doors}
-use Rattle.office_commands.specs.Ending.{served_status}
+use Rattle.office_commands.specs.Ending.{end_status, lost_line, served_status}
 
 -- ---- the output
 
@@ -54,10 +55,23 @@ abbrev pub IsEndText : SeasonFacts → List Entry → Tables → Bool → Status
 IsEndText facts history tables failed status text = (state : State) × IsOfficeAfter facts history tables state
     × (((status ≡ served_status failed) × (text ≡ served_text facts state (length history) failed)) ⊎ ((status ≡ OutOfMemory) × (text ≡ memory_line)))
 
+-- what waited at the end could not be kept, and the text does not say how far the office is
+abbrev pub IsLostText : Fault → Status → List ℕ → Type 0
+IsLostText fault status text = (status ≡ end_status (Err fault) false) × (text ≡ lost_line fault)
+
+-- the whole text that goes with each status, whether what waited at the end could be kept or not
+abbrev pub IsLastText : Result (Unit {0}) Fault → SeasonFacts → List Entry → Tables → Bool → Status → List ℕ → Type 0
+IsLastText (Ok done) facts history tables failed status text = IsEndText facts history tables failed status text
+IsLastText (Err fault) facts history tables failed status text = IsLostText fault status text
+
 -- The office of the season was served at the doors from the history `held` on, to the end of another one, with the text
 -- that goes with the status.
 abbrev pub HasServed : SeasonFacts → List Entry → Tables → Doors → Status → List ℕ → Type 0
 HasServed facts held tables doors status text = (history : List Entry) × (failed : Bool) × doors.served facts held history failed × IsEndText facts history tables failed status text
+
+-- The office was served so, but what waited at the end could not be kept: the keeper failed, or memory ran out.
+abbrev pub HasLost : SeasonFacts → List Entry → Doors → Status → List ℕ → Type 0
+HasLost facts held doors status text = (history : List Entry) × (failed : Bool) × (fault : Fault) × doors.lost facts held history failed × IsLostText fault status text
 
 -- The office was not served, because memory ran out. The doors are unchanged, and the tables represent the state to
 -- which the history `held` leads.
@@ -66,7 +80,7 @@ HasSpared facts held tables doors status text = ((state : State) × IsHistory fa
 
 -- the whole text that goes with each status if an office was at its doors with the history `held`
 abbrev pub IsServedText : SeasonFacts → List Entry → Tables → Doors → Status → List ℕ → Type 0
-IsServedText facts held tables doors status text = HasServed facts held tables doors status text ⊎ HasSpared facts held tables doors status text
+IsServedText facts held tables doors status text = HasServed facts held tables doors status text ⊎ (HasSpared facts held tables doors status text ⊎ HasLost facts held doors status text)
 
 -- how an office ends that was at its doors with the history `held`
 abbrev pub EndsServed : SeasonFacts → List Entry → Tables → Doors → Status → List ℕ → Type 0

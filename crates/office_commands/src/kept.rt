@@ -37,7 +37,7 @@ pub fn serve_kept<R: Threads + Wait + Sync, K: Sink, P: Keeper + Send, D: Door<C
     requires suit { AllByRecursion (λ d. D.to_come d ≤ most_connections) doors.old }
     ensures written { (output : List ℕ) × Appends output (K.written sink.old) (K.written sink.new)
         × EndsServeKept (P.seen keeper).tables (P.seen result.1).tables (doors_seen D.Door
-        D.Conn.Link (P.seen keeper) (P.seen result.1) doors.old doors.new) result.0 output }
+        D.Conn.Link P.seen keeper result.1 doors.old doors.new) result.0 output }
     ensures no_read_fault { result.0 ≢ Status.ReadFault }
     ensures sink { BlamesSink result.0 (sink_of K.Sink sink.old) (sink_of K.Sink sink.new) }
     ensures keeper { BlamesKeeper (λ status. (status ≡ Status.BadInput) ⊎ (status ≡ Status.Differs))

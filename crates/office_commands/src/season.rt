@@ -42,7 +42,7 @@ pub fn serve_season<
     requires suit { AllByRecursion (λ d. D.to_come d ≤ most_connections) doors.old }
     ensures written { (output : List ℕ) × Appends output (K.written sink.old) (K.written sink.new)
         × EndsServe (S.left source.old) (P.seen keeper).tables (P.seen result.1).tables (doors_seen
-        D.Door D.Conn.Link (P.seen keeper) (P.seen result.1) doors.old doors.new) result.0 output }
+        D.Door D.Conn.Link P.seen keeper result.1 doors.old doors.new) result.0 output }
     ensures read_whole { (result.0 ≡ Status.Ok) ⊎ (result.0 ≡ Status.DoorFault)
         → IsAtEnd (S.left source.new) }
     ensures no_difference { result.0 ≢ Status.Differs }
@@ -77,7 +77,7 @@ fn begin_and_serve<R: Threads + Wait + Sync, K: Sink, P: Keeper + Send, D: Door<
     requires suit { AllByRecursion (λ d. D.to_come d ≤ most_connections) doors.old }
     ensures written { (output : List ℕ) × Appends output (K.written sink.old) (K.written sink.new)
         × EndsBegun season (P.seen keeper).tables (P.seen result.1).tables (doors_seen D.Door
-        D.Conn.Link (P.seen keeper) (P.seen result.1) doors.old doors.new) result.0 output }
+        D.Conn.Link P.seen keeper result.1 doors.old doors.new) result.0 output }
     ensures no_read_fault { result.0 ≢ Status.ReadFault }
     ensures no_difference { result.0 ≢ Status.Differs }
     ensures sink { BlamesSink result.0 (sink_of K.Sink sink.old) (sink_of K.Sink sink.new) }

@@ -14,13 +14,14 @@ ghost use Rattle.office_base.specs.Visible.{sink_of};
 ghost use Rattle.season_commands.specs.Outside.{EndsWith};
 ghost use Rattle.office_commands.specs.ServeBlames.{BlamesDoors};
 ghost use Rattle.office_commands.specs.Doors.{doors_seen};
-ghost use Rattle.office_commands.specs.Ending.{served_status};
+ghost use Rattle.office_commands.specs.Ending.{end_status, served_status};
 ghost use Rattle.command_answers.specs.Writes.{Writes};
-ghost use Rattle.office_commands.specs.Serve.{EndsServed, IsEndText};
+ghost use Rattle.office_commands.specs.Serve.{EndsServed, IsEndText, IsLastText};
 
 use crate::telling::{served_text, write_served};
-use command_answers::{Status, tell_no_memory};
+use command_answers::{Status, tell_keeper_fault, tell_no_memory};
 use history_laws::laws::{keeps_its_word, runs_its_course};
+use http_wire::Fault;
 use keeper_mem::Keeper;
 use office_base::{OutOfMemory, Sink};
 use office_http::{OpenGate, Served, serve};
@@ -36,6 +37,7 @@ const MOST_NUMBER: u64 = 1 << 40;
 
 /// Serves an office at the doors, writes how far it is then, and returns its keeper.
 /// If the office's last number is too high for it to be served, it reports that memory ran out.
+/// If what waits at the end cannot be kept, it reports why, and not how far the office is.
 pub(crate) fn serve_office<
     R: Threads + Wait + Sync,
     K: Sink,
@@ -46,14 +48,17 @@ pub(crate) fn serve_office<
     requires suit { AllByRecursion (λ d. D.to_come d ≤ most_connections) doors.old }
     ensures written { (output : List ℕ) × Appends output (K.written sink.old) (K.written sink.new)
         × EndsServed office.season office.entries (P.seen result.1).tables (doors_seen D.Door
-        D.Conn.Link (P.seen office.keeper) (P.seen result.1) doors.old doors.new) result.0 output }
+        D.Conn.Link P.seen office.keeper result.1 doors.old doors.new) result.0 output }
     ensures told_before { IsTold (P.seen result.1).tables → IsTold (P.seen office.keeper).tables }
     ensures own { (result.0 ≡ Status.Ok) ⊎ ((result.0 ≡ Status.WriteFault)
-        ⊎ ((result.0 ≡ Status.OutOfMemory) ⊎ (result.0 ≡ Status.DoorFault))) }
+        ⊎ ((result.0 ≡ Status.OutOfMemory) ⊎ ((result.0 ≡ Status.DoorFault)
+        ⊎ (result.0 ≡ Status.KeeperFault)))) }
     ensures sink { BlamesSink result.0 (sink_of K.Sink sink.old) (sink_of K.Sink sink.new) }
     ensures doors { BlamesDoors (telling D.Door D.Conn.Link) doors.old doors.new result.0 }
-    ensures keeper_count { (P.seen office.keeper).faults ≤ (P.seen result.1).faults }
+    ensures keeper { ((P.seen office.keeper).faults ≤ (P.seen result.1).faults) × (result.0
+        ≡ Status.KeeperFault → Rose (P.seen office.keeper).faults (P.seen result.1).faults) }
     ensures complete { ¬ Rose (K.faults sink.old) (K.faults sink.new)
+        → ¬ Rose (P.seen office.keeper).faults (P.seen result.1).faults
         → ¬ SomeRose D.faults doors.old doors.new → EndsWith Status.Ok result.0 }
 {
     let _entries = office.entries();
@@ -66,20 +71,43 @@ pub(crate) fn serve_office<
     }
 }
 
-/// Writes how far an office is that was served, and returns its keeper.
+/// Writes how far an office is that was served, or why what waited at the end could not be kept, and returns its keeper.
 fn tell_served<K: Sink, P: Keeper>(alloc: Global, served: Served<P>, sink: &mut K) -> (Status, P)
     ensures written { (output : List ℕ) × Appends output (K.written sink.old) (K.written sink.new)
-        × Writes (IsEndText served.office.season served.office.entries
+        × Writes (IsLastText served.settled served.office.season served.office.entries
         (P.seen result.1).tables served.door_failed) result.0 output }
     ensures same { result.1 ≡ served.office.keeper }
-    ensures status { (result.0 ≡ served_status served.door_failed)
+    ensures status { (result.0 ≡ end_status served.settled served.door_failed)
         ⊎ ((result.0 ≡ Status.OutOfMemory) ⊎ (result.0 ≡ Status.WriteFault)) }
     ensures sink { BlamesSink result.0 (sink_of K.Sink sink.old) (sink_of K.Sink sink.new) }
 {
     let Served {
         office,
         door_failed,
+        settled,
     } = served;
+    match settled {
+        Ok(()) => tell_kept(alloc, office, door_failed, sink),
+        Err(Fault::Keeper) => (tell_keeper_fault(sink), office.into_keeper()),
+        Err(Fault::Memory) => (tell_no_memory(sink), office.into_keeper()),
+    }
+}
+
+/// Writes how far an office is that was served and of which all is kept, and returns its keeper.
+fn tell_kept<K: Sink, P: Keeper>(
+    alloc: Global,
+    office: Office<P>,
+    door_failed: bool,
+    sink: &mut K,
+) -> (Status, P)
+    ensures written { (output : List ℕ) × Appends output (K.written sink.old) (K.written sink.new)
+        × Writes (IsEndText office.season office.entries
+        (P.seen result.1).tables door_failed) result.0 output }
+    ensures same { result.1 ≡ office.keeper }
+    ensures status { (result.0 ≡ served_status door_failed)
+        ⊎ ((result.0 ≡ Status.OutOfMemory) ⊎ (result.0 ≡ Status.WriteFault)) }
+    ensures sink { BlamesSink result.0 (sink_of K.Sink sink.old) (sink_of K.Sink sink.new) }
+{
     says_what_is_sound(office.season());
     runs_its_course();
     keeps_its_word();

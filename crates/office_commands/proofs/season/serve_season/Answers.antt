@@ -9,7 +9,7 @@ use Rattle.office_commands.proofs.season.serve_season.Goals as goal
 
 pub returns-in-Ok-clause-written : goal.returns-in-Ok-clause-written
 returns-in-Ok-clause-written g c =
-    read_ends _ _ _ (doors_of (telling g.D.Door g.D.Conn.Link) _ _ _ _ _) c.in-Ok.season _ _ _ c.begin_and_serve.result.0 c.in-Ok.ensures.bundle c.begin_and_serve.ensures.written
+    read_ends _ _ _ (doors_of (telling g.D.Door g.D.Conn.Link) _ _ _ _ _ _ _) c.in-Ok.season _ _ _ c.begin_and_serve.result.0 c.in-Ok.ensures.bundle c.begin_and_serve.ensures.written
 
 pub returns-in-Ok-clause-answers : goal.returns-in-Ok-clause-answers
 returns-in-Ok-clause-answers g c =
@@ -21,7 +21,7 @@ returns-in-Ok-clause-answers g c =
 
 pub returns-clause-written : goal.returns-clause-written
 returns-clause-written g c =
-    unread_ends _ _ c.in-Err.failure _ (doors_of (telling g.D.Door g.D.Conn.Link) _ _ _ _ _) _ _ _ c.tell_failure.result c.in-Err.ensures.failure refl c.tell_failure.ensures.told
+    unread_ends _ _ c.in-Err.failure _ (doors_of (telling g.D.Door g.D.Conn.Link) _ _ _ _ _ _ _) _ _ _ c.tell_failure.result c.in-Err.ensures.failure refl c.tell_failure.ensures.told
 
 pub returns-clause-answers : goal.returns-clause-answers
 returns-clause-answers g c = record {
