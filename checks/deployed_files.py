@@ -368,7 +368,15 @@ def papers(room, program):
         tally.holds(status == 1 and "name the season" in wrote, "papers without a seat matrix", f"{status} {wrote}")
         with open(f"{room}/three.txt", "wb") as it:
             it.write(bundle)
+        status, wrote = script("papers", [*at, "--places", f"{room}/p3"], program)
+        tally.holds(status == 2 and "needs --season" in wrote, "places without a register", f"{status} {wrote}")
+        status, wrote = script("papers", [*at, "--season", f"{room}/three.txt", "--places", f"{room}/places"], program)
+        seen = "".join(text_of(f"{room}/places/places-{it}-I1.csv") for it in (1, 2, 3))
+        wanted = "".join(f"programme,candidate,place\n{placed(plain, lists[it], 'I1')}" for it in (1, 2, 3))
+        tally.holds(status == 0 and seen == wanted and wanted.count("\n") > 4, "the places of the candidates of a list", f"{status} {wrote} {seen} {wanted}")
+        tally.holds(not any(it in seen for it in tokens_of(bundle)), "no token in the places")
         status, wrote = script("papers", [*at, "--season", f"{room}/three.txt", f"{room}/p3"], program)
+        tally.holds(not any(it.startswith("places-") for it in os.listdir(f"{room}/p3")), "no places unless they are asked for", f"{os.listdir(f'{room}/p3')}")
         tally.holds(status == 0 and "3 rounds published" in wrote, "papers of the season of three windows", f"{status} {wrote}")
         has_cutoffs = directly(office, "GET", "/v1/cutoffs/1/A", None, None).status == 200
         agree(f"{room}/p3", replies, bundle, lists)
@@ -385,6 +393,15 @@ def papers(room, program):
     followed(room, program, told)
     mocked(room, program)
     specials(room, program)
+
+
+def placed(plain: PlainOffice, text: str, institute: str) -> str:
+    """Returns the rows of places of one institute, from the lists of a round and the register."""
+    rows = ""
+    for code, told in re.findall(r"^list \d+ (\S+)\n((?:.*\n)*?)end list\n", text, re.M):
+        its, merit = plain.season.programmes[code]
+        rows += "".join(f"{code},{it},{plain.season.person(int(it)).places[merit - 1]}\n" for it in re.findall(r"^(\d+) [WDXSFL-]$", told, re.M) if its == institute)
+    return rows
 
 
 def cutoff_files(folder, has_cutoffs):
@@ -509,10 +526,11 @@ def announced(room, program):
         ("a rank of no place", ["names", f"{room}/rank.csv"]),
         ("a short token", ["numbers", f"{room}/short.csv"]),
         ("an application number twice", ["numbers", f"{room}/number.csv"]),
+        ("an application number that lost its digits", ["numbers", f"{room}/digits.csv"]),
         ("a file of tokens without application numbers", ["numbers", f"{room}/kind.csv"]),
     ]:
-        given = {"twice": "programme,A,x\nprogramme,A,y\n", "kind": "course,A,x\n", "rank": "rank,1-0,x\n"}
-        given |= {"short": f"{HEAD}1,abcdefgh1234567,A1\n", "number": f"{HEAD}1,abcdefgh12345678,A-1\n2,abcdefgh12345679,a1\n"}
+        given = {"twice": "programme,A,x\nprogramme,A,y\n", "kind": "course,A,x\n", "rank": "rank,1-0R,x\n"}
+        given |= {"short": f"{HEAD}1,abcdefgh1234567,A1\n", "number": f"{HEAD}1,abcdefgh12345678,A-1\n2,abcdefgh12345679,a1\n", "digits": f"{HEAD}1,abcdefgh12345678,2.6031E+11\n"}
         for name, text in given.items():
             with open(f"{room}/{name}.csv", "w", encoding="utf-8") as it:
                 it.write(text)
@@ -526,8 +544,10 @@ def announced(room, program):
 
 
 def announced_numbers(room, program):
-    """The paper about application numbers: who has number and token finds the candidate, the paper shows neither, and one of before goes."""
-    people = {it: (f"26-{it:010}", f"{it:05}abcdefghijk") for it in range(1, 1201)}
+    """The paper about application numbers: who has number and token finds the candidate, the paper shows neither, and one of before goes.
+
+    A spreadsheet program drops the zeros before a number, so they do not count."""
+    people = {it: (f"0026-{it:010}", f"{it:05}abcdefghijk") for it in range(1, 1201)}
     with open(f"{room}/tokens.csv", "w", encoding="utf-8") as it:
         it.write(f"{HEAD}clerk,abcdefgh12345678,\n" + "".join(f"{one},{token},{number}\n" for one, (number, token) in people.items()))
     for _ in range(2):
@@ -538,10 +558,10 @@ def announced_numbers(room, program):
     parts = {it: json.loads(text_of(f"{room}/numbers/{told['salt']}/{it}.json")) for it in "0123456789abcdef"}
     for one in (1, 600, 1200):
         number, token = people[one]
-        key = hashlib.pbkdf2_hmac("sha256", token.encode(), (told["salt"] + number.replace("-", "")).encode(), 1000, 8).hex()
+        key = hashlib.pbkdf2_hmac("sha256", token.encode(), (told["salt"] + number.replace("-", "").lstrip("0")).encode(), 1000, 8).hex()
         tally.same(parts[key[0]].get(key[1:]), one, f"number and token of candidate {one} find the candidate")
     all_of_it = json.dumps(parts)
-    tally.holds(not any(number[3:] in all_of_it or token in all_of_it for number, token in people.values()), "no application number and no token is in it")
+    tally.holds(not any(number[5:] in all_of_it or token in all_of_it for number, token in people.values()), "no application number and no token is in it")
     status, wrote = script("announce", [room, "remove", "numbers.json"], program)
     tally.same((status, text_of(f"{room}/numbers.json"), os.listdir(f"{room}/numbers")), (0, "{}", []), "announce removes the parts too")
 
@@ -568,6 +588,44 @@ def ends_failed(room, program):
         time.sleep(1)
         child.terminate()
         tally.same(child.wait(), -15, "run-office hands a signal on")
+
+
+# what run-office runs in place of an office with a large store: it listens, and answers after some seconds
+LATE = """#!/usr/bin/env python3
+import socket, sys, time
+door = socket.create_server(("127.0.0.1", int(sys.argv[5])))
+time.sleep(4)
+while True:
+    link, _ = door.accept()
+    with link:
+        link.recv(4096)
+        link.sendall(b"HTTP/1.1 200 OK\\r\\nContent-Length: 2\\r\\nConnection: close\\r\\n\\r\\n{}")
+"""
+
+
+@part("an office that reads a large store is away", ["nginx", "openssl"])
+def reads_long(room, program):
+    """It listens before it answers; run-office says so to nginx, so that nobody waits in silence."""
+    os.makedirs(f"{room}/run")
+    with open(f"{room}/late", "w", encoding="utf-8") as it:
+        it.write(LATE)
+    os.chmod(f"{room}/late", 0o755)
+    port, flag = free_port(), f"{room}/run/starting"
+    words = [f"{DEPLOY}/run-office", f"{room}/season.db", f"{room}/late", "serve", "100", "2", "kept", str(port), f"{room}/season.db"]
+    with Front(room, f"127.0.0.1:{port}", STARTING=flag) as nginx, subprocess.Popen(words, env={**SYSTEM, "RUNTIME_DIRECTORY": f"{room}/run"}) as child:
+        try:
+            until(lambda: listeners(port), "the port of the office")
+            begun = time.monotonic()
+            came = nginx.ask("GET", "/v1/state")
+            secs = time.monotonic() - begun
+            tally.holds(os.path.exists(flag) and secs < 2, "a question is answered at once while the office reads its store", f"{came} {secs:.1f} s")
+            tally.same((came.status, came.body, came.fields.get("retry-after")), (502, b'{"front":"away"}', "2"), "an office that reads its store is away")
+            tally.status(nginx.ask("GET", "/"), 200, "the page meanwhile")
+            until(lambda: not os.path.exists(flag), "the first answer of the office", 20)
+            tally.same(nginx.ask("GET", "/v1/state").body, b"{}", "the office answers when it has read its store")
+        finally:
+            child.terminate()
+            child.wait()
 
 
 @part("what is watched")
@@ -711,6 +769,16 @@ def units(room, program):
         exposure = re.search(r"Overall exposure level for \S+: ([\d.]+)", ran.stdout)
         limit = most.get(name, 2.5)
         tally.holds(exposure and float(exposure[1]) <= limit, f"systemd-analyze security {name}: at most {limit}", ran.stderr + ran.stdout[-200:])
+
+
+@part("shellcheck takes the scripts", ["shellcheck"], rooms=None)
+def shell_scripts(room, program):
+    """Each script of a shell, and those that run in the container."""
+    paths = sorted(f"{at}/{it}" for at, _, names in os.walk(DEPLOY) for it in names if text_of(f"{at}/{it}").startswith("#!/bin/sh"))
+    tally.holds(len(paths) > 10, "there are scripts of a shell", f"{paths}")
+    for path in paths:
+        ran = subprocess.run([found("shellcheck"), "--shell=sh", path], capture_output=True, text=True, env=SYSTEM)
+        tally.holds((ran.returncode, ran.stdout) == (0, ""), f"shellcheck {os.path.relpath(path, DEPLOY)}", ran.stdout + ran.stderr)
 
 
 # What runs in the container: each line of its output is a name and what was seen. The tokens are those of strong().

@@ -338,7 +338,7 @@ def clerks_alone(room, program):
     with Office(program, f"{room}/office") as office, Front(room, f"127.0.0.1:{office.port}", PUBLIC="cutoffs", DESK=f"{room}/desk") as nginx:
         office.start("new", bundle=bundle_of())
         tally.status(nginx.ask("POST", "/v1/cut", CLERK, CUT, source=CLERK_AT), 200, "a cut from the clerk's address")
-        names = ["round-1.txt", "lists-1.txt", "institute-1-I1.txt", "mock-round.txt", "mock-institute-I1.txt", "special-lists.txt", "special.txt", "final.txt"]
+        names = ["round-1.txt", "lists-1.txt", "institute-1-I1.txt", "places-1-I1.csv", "mock-round.txt", "mock-institute-I1.txt", "special-lists.txt", "special.txt", "final.txt"]
         for name in [*names, "cutoffs-1.csv", "closing-1.csv", "mock-cutoffs.csv", "programmes.json"]:
             for end in ("", ".gz"):
                 with open(f"{room}/season/{name}{end}", "w", encoding="utf-8") as it:

@@ -318,24 +318,75 @@ def saved_by(office, room, source, to, *words):
     subprocess.run(how, check=True, capture_output=True, timeout=180, env={**SYSTEM, "HOME": room})
 
 
+READ_AS = "--infilter=CSV:44,34,UTF8,1"
+SAVED_AS = {"UTF-8": "csv:Text - txt - csv (StarCalc):44,34,76,1", "UTF-8 with semicolons": "csv:Text - txt - csv (StarCalc):59,34,76,1", "Windows-1252": "csv:Text - txt - csv (StarCalc):44,34,1,1"}
+
+
+def saved_again(room, stem):
+    """Saves a file of a folder in each form, directly and through a workbook; yields what it is, and where. A double click opens it so: each field is guessed by its form."""
+    office = found("soffice")
+    saved_by(office, room, f"{room}/{stem}.csv", "xlsx", READ_AS)
+    for label, form in SAVED_AS.items():
+        for source in (f"{room}/{stem}.csv", f"{room}/saved/{stem}.xlsx"):
+            saved_by(office, room, source, form, *([READ_AS] if source.endswith(".csv") else []))
+            yield f"by {os.path.splitext(source)[1][1:]}, saved as {label}", f"{room}/saved/{stem}.csv"
+
+
 @part("tokens.csv through LibreOffice and back", [] if found("soffice") else ["soffice"], rooms=None)
 def tokens_through(room, program):
     put_season(room)
     _, bundle, _ = season(room)
     data = text_of(f"{room}/tokens.csv")
-    csv_as = {"UTF-8": "csv:Text - txt - csv (StarCalc):44,34,76,1", "UTF-8 with semicolons": "csv:Text - txt - csv (StarCalc):59,34,76,1", "Windows-1252": "csv:Text - txt - csv (StarCalc):44,34,1,1"}
     shutil.copy(f"{room}/tokens.csv", f"{room}/first.csv")
-    # as a double click opens it: the program guesses the encoding by the mark, and each field by its form
-    saved_by(found("soffice"), room, f"{room}/first.csv", "xlsx", "--infilter=CSV:44,34,UTF8,1")
-    for label, form in csv_as.items():
-        for source in (f"{room}/first.csv", f"{room}/saved/first.xlsx"):
-            words = ["--infilter=CSV:44,34,UTF8,1"] if source.endswith(".csv") else []
-            saved_by(found("soffice"), room, source, form, *words)
-            shutil.copy(f"{room}/saved/first.csv", f"{room}/tokens.csv")
-            status, again, said = season(room)
-            name = f"{os.path.splitext(source)[1][1:]}, saved as {label}"
-            tally.holds(status == 0 and again == bundle, f"tokens.csv through LibreOffice by {name}: the same tokens", said[-300:])
-            tally.same(text_of(f"{room}/tokens.csv"), data, f"tokens.csv through LibreOffice by {name}: the same names")
+    for how, saved in saved_again(room, "first"):
+        shutil.copy(saved, f"{room}/tokens.csv")
+        status, again, said = season(room)
+        tally.holds(status == 0 and again == bundle, f"tokens.csv through LibreOffice {how}: the same tokens", said[-300:])
+        tally.same(text_of(f"{room}/tokens.csv"), data, f"tokens.csv through LibreOffice {how}: the same names")
     shutil.copy(f"{room}/saved/first.xlsx", f"{room}/tokens.csv")
     status, _, said = season(room)
     tally.holds(status == 3 and "save it as CSV UTF-8" in said and "may be sent already" in said, "a workbook in place of tokens.csv", said[-300:])
+
+
+def read_by(program, folder, files, people):
+    """What announce and counts make of a file of names and one of tokens: their statuses, the names, who is found by number and token, and who has not answered."""
+    os.makedirs(f"{folder}/papers")
+    names = script("announce", [f"{folder}/papers", "names", files["names"]], program)
+    numbers = script("announce", [f"{folder}/papers", "numbers", files["tokens"]], program)
+    silent = script("counts", [files["store"], "--names", files["tokens"]], program)
+    told, seen = json.loads(text_of(f"{folder}/papers/numbers.json") or "{}"), {}
+    for number, token in people.items() if told else []:
+        key = hashlib.pbkdf2_hmac("sha256", token.encode(), (told["salt"] + number).encode(), 1000, 8).hex()
+        seen[number] = json.loads(text_of(f"{folder}/papers/numbers/{told['salt']}/{key[0]}.json")).get(key[1:])
+    return [names[0], numbers[0], silent[0]], text_of(f"{folder}/papers/names.json"), seen, silent[1] if silent[0] == 0 else "", names[1] + numbers[1] + silent[1]
+
+
+@part("announce, begin and counts over what LibreOffice saved", [] if found("soffice") else ["soffice"], rooms=None)
+def read_after(room, program):
+    put_season(room)
+    with open(f"{room}/register.csv", "w", encoding="utf-8") as it:
+        it.write(REGISTER.replace("id,", "application number,").replace("\n", "\n26031000000").removesuffix("26031000000"))
+    with open(f"{room}/choices.csv", "w", encoding="utf-8") as it:
+        it.write("candidate,preference,programme\n260310000001,1,A\n")
+    _, bundle, said = season(room)
+    tokens = {it["candidate"]: it for it in csv.DictReader(io.StringIO(text_of(f"{room}/tokens.csv").removeprefix("\ufeff")))}
+    people = {it["application_number"]: it["token"] for who, it in tokens.items() if who != "clerk"}
+    for name, text in (("given.csv", text_of(f"{room}/tokens.csv")), ("codes.csv", f"\ufeff{NAMES}")):
+        with open(f"{room}/{name}", "w", encoding="utf-8", newline="") as it:
+            it.write(text)
+    status, wrote = script("begin", [f"{room}/season.db"], program, bundle.encode())
+    called([program, "resume", f"{room}/season.db"], b"cut,clerk,0\n")
+    files = {"names": f"{room}/codes.csv", "tokens": f"{room}/given.csv", "store": f"{room}/season.db"}
+    wanted = read_by(program, f"{room}/plain", files, people)
+    tally.holds(status == 0 and wanted[0] == [0, 0, 0] and [*wanted[2].values()] == [1, 2, 3, 4, 5], "announce, begin and counts over the files as they are", f"{said} {wrote} {wanted}")
+    tally.holds("भौतिकी" in wanted[1] and "आशा कुमारी" in wanted[3], "names in Hindi", f"{wanted}")
+    for number, ((how, names), (_, given)) in enumerate(zip(saved_again(room, "codes"), saved_again(room, "given"))):
+        came = read_by(program, f"{room}/{number}", {**files, "names": names, "tokens": given}, people)
+        if how.endswith("Windows-1252"):
+            tally.holds(came[0] == [3, 3, 3] and came[4].count("save ") >= 3 and "Traceback" not in came[4], f"lost letters after LibreOffice {how} are told", f"{came}")
+        else:
+            tally.same(came[:4], wanted[:4], f"announce and counts after LibreOffice {how}")
+        shutil.copy(given, f"{room}/tokens.csv")
+        _, again, said = season(room)
+        status, wrote = script("begin", [f"{room}/{number}/season.db"], program, again.encode())
+        tally.holds(status == 0 and again == bundle, f"begin after LibreOffice {how}", f"{status} {wrote} {said[-300:]}")

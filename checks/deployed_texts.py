@@ -6,8 +6,8 @@ import os
 import re
 import subprocess
 
-from deployed import ANSWER, CLERK, CUT, SECOND, bundle_of, fronted, in_threads, part, tally
-from front import CLERK_AT, DEPLOY, HOST, OTHER_AT, Front, Recorder, called, certificate, found, request
+from deployed import ANSWER, CLERK, CUT, SECOND, fronted, in_threads, part, tally
+from front import CLERK_AT, DEPLOY, HOST, OTHER_AT, Front, Recorder, called, certificate, found
 
 TEXT = b'HTTP/1.1 200 OK\r\nContent-Type: application/json\r\nContent-Length: 44\r\n\r\n{"reply":"round","round":1,"text":"x"}      '
 NONE = b'HTTP/1.1 404 Not Found\r\nContent-Type: application/json\r\nContent-Length: 2\r\n\r\n{}'
