@@ -114,6 +114,6 @@ def board_numbers(text: str) -> dict:
     own = next((names.index(it) for it in APPLICATION if it in names), None)
     name = names.index("name") if "name" in names else None
     if key is None:
-        raise Wrong("the file of tokens has no column `candidate`")
+        raise Wrong("the file of tokens has no column `candidate`: save it as CSV UTF-8 with commas in the spreadsheet program")
     field = lambda row, at: row[at].strip() if at is not None and at < len(row) else ""
     return {int(row[key]): (field(row, own), field(row, name)) for row in rows if NUMBER.fullmatch(field(row, key))}
