@@ -192,8 +192,8 @@ def tokens():
         yield f"tools/season: a file of tokens that a spreadsheet program saved again gives {len(again_in_books)} bundles, or another one"
     if mode != 0o600 or rows[0] != ["candidate", "token", "number", "application_number", "name", "E-Mail"] or rows[2][2:] != ["1", "", "", "a@example"]:
         yield f"tools/season: the file of tokens has mode {mode:o} and the rows {rows[:1]}"
-    if len(set(made)) != 3 or not all(re.fullmatch("[a-f][0-9a-f]{31}", it) and it.encode() in first for it in made):
-        yield "tools/season: a token is not 32 characters by chance"
+    if len(set(made)) != 3 or not all(re.fullmatch("[a-hjkmnp-z][2-9a-hjkmnp-z]{15}", it) and it.encode() in first for it in made):
+        yield "tools/season: a token is not 16 signs by chance that nobody confuses"
     if other[2] != 3 or other[0]:
         yield "tools/season: it takes a file for tokens that has none"
 
