@@ -86,6 +86,12 @@ def walks() -> Iterator[str]:
             yield from with_one_more(room, first)
 
 
+# the columns of ranks in the sheet
+SHEET_RANKS = ("Rank CRL", "Rank GEN-EWS", "Rank OBC-NCL", "Rank SC", "Rank ST", "Rank CRL-PwD")
+# behind which place of merit list 1 the ranks of each list begin; those of categories are relaxed
+RANKS = [["1-0", "Rank CRL"], ["1-230000R", "Rank OBC-NCL"], ["1-240000R", "Rank SC"], ["1-250000", "Rank CRL-PwD"]]
+
+
 def of_papers(room: str) -> Iterator[str]:
     """Gives what is wrong with the files of tokens and of names."""
     tokens, names = rows_of(f"{room}/tokens.csv"), rows_of(f"{room}/names.csv")
@@ -93,7 +99,7 @@ def of_papers(room: str) -> Iterator[str]:
         yield f"examples/board-sheets: tokens.csv begins with {tokens[0]} and {tokens[2][2:]}"
     if ["institute", "NITS", "National Institute of Technology, Surathkal"] not in names:
         yield f"examples/board-sheets: names.csv has {names[:2]}"
-    if ["rank", "1-240000", "Rank SC"] not in names:
+    if [it for it in names if it[0] == "rank"] != [["rank", *it] for it in RANKS]:
         yield f"examples/board-sheets: names.csv does not say where the ranks of a list begin: {names[-3:]}"
 
 
@@ -105,7 +111,7 @@ def with_one_more(room: str, before: bytes) -> Iterator[str]:
     put_file(f"{room}/names.csv", written([*rows_of(f"{room}/names.csv"), ["rank", "1-99000", "before"], ["list", "1", "JEE"]]))
     after, said, status = season("--yes=women-D", room)
     kept = [row[1:] for row in rows_of(f"{room}/names.csv") if row[0] in ("rank", "list")]
-    if kept != [["1-230000", "Rank OBC-NCL"], ["1-240000", "Rank SC"], ["1-250000", "Rank CRL-PwD"], ["1", "JEE"]]:
+    if kept != [*RANKS, ["1", "JEE"]]:
         yield f"examples/board-sheets: with one candidate more names.csv has {kept}"
     lost = {*before.split(b"\n")} - {*after.split(b"\n")}
     if status or lost or b"\n49,GEN,-," not in after:
@@ -248,7 +254,7 @@ def of_fields() -> Iterator[Spoiled]:
     says = {(0, "2.6E+11"): r"choices.csv, row 4, column .*the spreadsheet shortened", (2, "9"): "question gaps", (4, ""): r"choices.csv, row 4, column", (4, "Poetry"): "row 4, column Academic Program .*Poetry", (4, "Computer Science and Engineering"): "row 4, column Academic Program .*Computer"}
     yield from (field("choices.csv", 4, column, value, says.get((column, value), "")) for column, values in bad.items() for value in values)
     for key, value in (("rounds", "0"), ("rounds", "11"), ("rounds", "three"), ("rounds", ""), ("round", "3")):
-        yield whole("season.csv", f"{key},{value}", f"{key},{value}\n".encode(), rf"season.csv(, row 1, column|: there is no row)")
+        yield whole("season.csv", f"{key},{value}", f"{key},{value}\n".encode(), r"season.csv(, row 1, column|: there is no row)")
     for row, column, value in ((3, 3, "kategory"), (3, 0, "people"), (2, 2, "x")):
         yield field("columns.csv", row, column, value)
     yield field("columns.csv", 4, 3, "name", "two columns of register.csv mean this")
@@ -372,10 +378,13 @@ def fault_of_papers(room: str, label: str, dossier: bytes) -> Optional[str]:
     _, said, status = table_trials.called("tools/letters", [f"{room}/dossier.txt", f"{room}/letters", *own])
     if status == 1 and "apt-get install python3-gi" in said:
         return None
-    letters = [] if status else [row[3:5] for row in table_trials.table(f"{room}/letters/codes-final.csv")[1:]]
+    header, *rows = [[]] if status else table_trials.table(f"{room}/letters/codes-final.csv")
+    letters = [row[3:5] for row in rows]
     if sorted(letters) != sorted([it["application_number"], it["name"]] for it in seats):
         return f"tools/letters, {label}: status {status}, {letters[:2]}: {said[-200:]}"
-    return None
+    own = {row[1]: {f"{it.replace(',', '')} in {name}" for name, it in zip(SHEET_RANKS, row[8:14]) if it} for row in rows_of(f"{room}/register.csv") if len(row) > 13}
+    strange = [(row[3], row[header.index("Rank")]) for row in rows if row[header.index("Rank")] not in own[row[3]]]
+    return f"tools/letters, {label}: a letter has a rank that the sheet has not: {strange[:2]}" if strange else None
 
 
 def fault_of_count(program: str, bundle: bytes, told: bytes, with_quotas: bool) -> Optional[str]:

@@ -182,7 +182,9 @@ def crashed_store(room: str, program: str, candidates: int = 200) -> list[bytes]
         source.write(bundle)
         source.seek(0)
         office = subprocess.Popen([program, "run", "season.db"], cwd=room, stdin=source, stdout=subprocess.DEVNULL)
-    while office.poll() is None and (not os.path.exists(f"{path}-wal") or os.path.getsize(f"{path}-wal") < 300_000):
+    # the season is kept first, in one commit
+    least = 300_000 + 2 * len(bundle)
+    while office.poll() is None and (not os.path.exists(f"{path}-wal") or os.path.getsize(f"{path}-wal") < least):
         time.sleep(0.002)
     office.kill()
     if office.wait() or candidates > 10_000:

@@ -3,11 +3,12 @@
 tools/tables, tools/letters and deploy/counts share it. An error names the file, the row, the column and the value."""
 import os
 import re
+import sys
 from typing import Dict, Iterable, List, NamedTuple, Optional, Tuple
 
 from dossier_papers import Wrong
 from formats import NUMBER
-from spreadsheets import Findings, letters, read, stripped
+from spreadsheets import Findings, letters, read, stripped, tell_lost_letters
 
 NUMBER_COLUMNS = ("number", "candidate", "id")
 # columns of the file of tokens that repeat the number
@@ -17,7 +18,7 @@ REPORT_COLUMNS = ("institute", "date", "place")
 MOST_NAME = 200
 # what a row names, and the form of its code
 CODES = "[A-Za-z0-9-]{1,16}"
-KINDS = {"programme": CODES, "institute": CODES, "short": CODES, "list": "[1-4]", "rank": "[1-4]-[1-9][0-9]{0,6}", "board": "", "season": ""}
+KINDS = {"programme": CODES, "institute": CODES, "short": CODES, "list": "[1-4]", "rank": "[1-4]-(?:0|[1-9][0-9]{0,6}R?)", "board": "", "season": ""}
 
 
 class Columns(NamedTuple):
@@ -62,8 +63,8 @@ def look_at_letters(path: str) -> None:
 
 
 def table(path: str, known: Iterable[str]) -> Table:
-    """Returns a table of the board's; whatever a spreadsheet wrote that is no table is an error."""
-    findings = Findings(set())
+    """Returns a table of the board's; whatever a spreadsheet wrote that is no table is an error. Writes where letters were lost."""
+    findings, lost = Findings(set()), Findings(set())
     if os.path.isfile(path):
         look_at_letters(path)
     rows = read(os.path.dirname(path) or ".", os.path.basename(path), {*known}, findings)
@@ -71,6 +72,9 @@ def table(path: str, known: Iterable[str]) -> Table:
         raise Wrong(f"{path}: {str(findings.causes[0]).partition(': ')[2]}")
     if not rows:
         raise Wrong(f"{path}: it is empty")
+    tell_lost_letters(path, rows, lost)
+    for line in lost.remarks:
+        print(f"{os.path.basename(sys.argv[0])}: {line}", file=sys.stderr)
     stripped_rows = [(number, [stripped(it) for it in fields]) for number, fields in rows]
     width = max(2, *(len(fields) for _, fields in stripped_rows))
     full = [(number, [*fields, *[""] * (width - len(fields))]) for number, fields in stripped_rows]
@@ -117,16 +121,25 @@ def columns(path: str) -> Columns:
 
 
 class Names(NamedTuple):
-    """Names for codes of programmes and institutes and for merit lists, and of the board and the season."""
+    """Names for codes of programmes and institutes, for merit lists and the lists of ranks in them, and of the board and the season."""
 
     programmes: Dict[str, str]
     institutes: Dict[str, str]
     lists: Dict[str, str]
     board: str
     season: str
+    ranks: Dict[str, str] = {}
 
     def institute(self, code: str) -> str:
         return self.institutes.get(code, code)
+
+    def rank(self, merit: int, place: str) -> str:
+        """Returns a place of a merit list as the candidate knows it: where several lists of ranks were joined, the rank in its list."""
+        firsts = {int(code.partition("-")[2].rstrip("R")): name for code, name in self.ranks.items() if code.startswith(f"{merit}-")}
+        first = max((it for it in firsts if it < int(place.rstrip("R") or 0)), default=None)
+        if first is None:
+            return f"{place} in {self.lists.get(str(merit)) or f'merit list {merit}'}"
+        return f"{int(place.rstrip('R')) - first} in {firsts[first]}"
 
     def programme(self, code: str, base: str) -> str:
         """Returns the name of a programme; a unit of a divided one may have a name of its own."""
@@ -150,7 +163,7 @@ def names(path: str) -> Names:
         if found.setdefault((kind, code), name) != name:
             raise Wrong(f"{path}, row {row}, column C: `{name:.60}`: an earlier row has another name for this {kind}")
     by_kind = {kind: {code: name for (other, code), name in found.items() if other == kind} for kind in KINDS}
-    return Names(by_kind["programme"], by_kind["institute"], by_kind["list"], by_kind["board"].get("", ""), by_kind["season"].get("", ""))
+    return Names(by_kind["programme"], by_kind["institute"], by_kind["list"], by_kind["board"].get("", ""), by_kind["season"].get("", ""), by_kind["rank"])
 
 
 class Reporting(NamedTuple):

@@ -20,6 +20,8 @@ TURNS, DIGITS, MOST = 1_000, 16, 1_000
 # anybody may try tokens on the published paper for as long as they like, so a token has more signs than the office asks for
 LEAST = 16
 NAME = "numbers"
+# what a spreadsheet program makes of a long number in a narrow column
+SHORTENED = re.compile(r"[0-9]*[.,]?[0-9]+[Ee]\+[0-9]+")
 
 
 class Candidate(NamedTuple):
@@ -31,8 +33,8 @@ class Candidate(NamedTuple):
 
 
 def bare(application: str) -> str:
-    """Returns an application number as the page compares it: letters and digits alone, and no small letters."""
-    return re.sub("[^A-Z0-9]", "", application.upper())
+    """Returns an application number as the page compares it: letters and digits alone, no small letters, and no zeros before a number, which spreadsheets drop."""
+    return re.sub("^0+(?=[0-9]+$)", "", re.sub("[^A-Z0-9]", "", application.upper()))
 
 
 def hashed(salt: str, application: str, token: str) -> str:
@@ -52,6 +54,8 @@ def candidates(path: str) -> List[Candidate]:
         if number == "clerk" or not bare(application):
             continue
         one = Candidate(number_of(path, row, it.header, at[0] or 0, number), bare(application), token)
+        if SHORTENED.fullmatch(application):
+            raise Wrong(f"{place_of(path, row, it.header, at[2] or 0)}: `{application}`: a spreadsheet program shortened the number: put a good copy of the file in its place")
         if len(token) < LEAST:
             raise Wrong(f"{place_of(path, row, it.header, at[1] or 0)}: the token of candidate {one.number} has {len(token)} signs: with fewer than {LEAST} somebody could find it from the paper")
         other = found.setdefault(one.application, one)

@@ -34,6 +34,8 @@ def libraries():
 
         gi.require_version("Pango", "1.0")
         gi.require_version("PangoCairo", "1.0")
+        # a package of its own, without which a context of cairo is no value for Pango
+        gi.require_foreign("cairo", "Context")
         from gi.repository import Pango, PangoCairo
     except (ImportError, ValueError):
         if os.path.realpath(sys.executable) != os.path.realpath(DEBIAN_PYTHON) and os.access(DEBIAN_PYTHON, os.X_OK):

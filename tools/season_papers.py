@@ -8,6 +8,8 @@ from formats import NUMBER, TOKEN
 from spreadsheets import Findings, counted, put_file, read, stripped, written
 
 TOKENS = ("candidate", "token", "number", "application_number", "name")
+# without i, l, o, 0 and 1, which people confuse
+LETTERS, DIGITS = "abcdefghjkmnpqrstuvwxyz", "23456789"
 NO_TOKENS = "it is there and is no file of tokens of this season. Its tokens may be sent already, so do not remove it: put a good copy in its place, or name another file by --tokens FILE"
 
 
@@ -56,9 +58,15 @@ class Kept:
             self.numbers[application] = int(name)
 
 
-def new_token() -> str:
-    """Returns a token by chance. It begins with a letter, so that no spreadsheet program takes it for a number."""
-    return secrets.choice("abcdf") + secrets.token_hex(TOKEN.most // 2)[1:]
+def new_token(name: str) -> str:
+    """Returns a token by chance. It begins with a letter, so that no spreadsheet program takes it for a number. A candidate types it, so it has 16 signs that nobody confuses, which are
+    79 bits, and not the candidate's own number; the clerk's has 32."""
+    if name == "clerk":
+        return secrets.choice("abcdf") + secrets.token_hex(TOKEN.most // 2)[1:]
+    while True:
+        made = secrets.choice(LETTERS) + "".join(secrets.choice(LETTERS + DIGITS) for _ in range(15))
+        if name.zfill(4) not in made:
+            return made
 
 
 def fill_tokens(season: Any, register: Any, given: Any, kept: Kept) -> dict:
@@ -69,7 +77,7 @@ def fill_tokens(season: Any, register: Any, given: Any, kept: Kept) -> dict:
         before = kept.tokens.get(name, "")
         how = "given" if found else "kept" if before and before not in used else "made"
         counts[how] += 1
-        found = found or (before if how == "kept" else new_token())
+        found = found or (before if how == "kept" else new_token(name))
         used.add(found)
         return found
 

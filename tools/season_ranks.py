@@ -121,9 +121,12 @@ def give_places(name: str, people: list, findings: Findings, file: str) -> list:
 
 
 def rank_rows(number: int, people: list) -> list:
-    """Returns the rows of names.csv that say behind which place of a merit list the places are ranks in another list, and what that list is called."""
-    columns = heading(people)
-    return [["rank", f"{number}-{first}", columns[of]] for of, first in (begins(people) or {}).items()]
+    """Returns the rows of names.csv that say behind which place of a merit list the places are ranks in which list, R for relaxed ones; no row where there is one list alone."""
+    columns, first = heading(people), begins(people)
+    if not first:
+        return []
+    common = [["rank", f"{number}-0", columns[""]]] if "" in columns else []
+    return [*common, *(["rank", f"{number}-{place}{'' if of == 'PwD' else 'R'}", columns[of]] for of, place in first.items())]
 
 
 def heading(people: list) -> dict:
