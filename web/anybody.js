@@ -1,11 +1,12 @@
 /** The page for anybody: how far the season is, the cutoffs, the seats of a programme, the text of a round, and the two questions of a refusal. */
-import { askList, askRound, askState, hasPaper } from "./ask.js";
+import { askList, askPlaces, askRound, askState, hasPaper } from "./ask.js";
 import { $, busy, clear, details, dropLinks, el, onPress, onSend, ownWords, ready, saveLink, say, table, textBox, valueOf, verbatim } from "./dom.js";
+import { readPlace } from "./cutoffs.js";
 import { fillLike, nameLists, showCutoffs, showLike } from "./finder.js";
 import { isLikeApplication } from "./numbers.js";
 import { listPicture } from "./picture.js";
 import { isCandidate, isCode, lineOf, readList, readRound, readSheet, readSpecial, twoQuestions, Unreadable } from "./rule.js";
-import { announcedEnd, instituteName, instituteOf, lookAgain, papersCome, programmeName, programmeOf, showContact, showEnd, showNotice, showState } from "./season.js";
+import { announcedEnd, instituteName, instituteOf, lookAgain, papersCome, programmeName, programmeOf, publishedPlace, showContact, showEnd, showNotice, showState } from "./season.js";
 import { startVisit } from "./visit.js";
 import { ARRIVING, ASKING, EXAMPLE, FAULTS, MOCK, NOT_DISABILITY, OWN_WORDS, QUESTIONS, ROUND, SEATS, SPECIAL, trouble } from "./words.js";
 
@@ -60,16 +61,23 @@ async function showList() {
   if (!round) return say(said, "bad", FAULTS.round);
   say(said, "plain", ASKING);
   const [got] = await Promise.all([askList(round, code), papersCome()]);
+  const places = await askPlaces(round, code, instituteOf(code));
   if (got.body?.reply !== "list") return say(said, "bad", trouble(got), ownWords(got));
   say(said, "plain");
   const { text } = got.body;
   try {
     const list = readList(text);
     const note = list.steps.some((it) => it.name === "D" && it.seats > 0) ? [el("p", {}, el("strong", {}, NOT_DISABILITY))] : [];
-    $("list").replaceChildren(el("h3", {}, SEATS.title(list.round, programmeName(list.code))), ...note, listPicture(list, text, programmeOf(code)), ...instituteLink(round, code));
+    $("list").replaceChildren(el("h3", {}, SEATS.title(list.round, programmeName(list.code))), ...note, listPicture(list, text, programmeOf(code), null, (cand) => placeWords(code, places?.get(cand))), ...instituteLink(round, code));
   } catch {
     $("list").replaceChildren(el("p", {}, SEATS.unread), details(OWN_WORDS, verbatim(text)));
   }
+}
+
+/** The words for the published place of somebody with a seat, or null where it is not published. */
+function placeWords(code, text) {
+  const its = readPlace(text);
+  return its && SEATS.place(publishedPlace(programmeOf(code)?.list, its.place), null);
 }
 
 /** A link to the paper with all lists of the programme's institute, where the programmes are published. */
@@ -129,6 +137,7 @@ function summary(round, isFinal, text, wanted) {
 function checkRefusal() {
   const shown = $("answer");
   clear(shown);
+  $("check").open = true;
   const candidate = valueOf($("candidate"), isCandidate, "candidate");
   if (!candidate) return;
   try {

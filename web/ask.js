@@ -129,6 +129,12 @@ export async function paper(name, how = {}) {
   return status === 200 ? text : null;
 }
 
+/** Returns the published places of who has a seat of a programme, by candidate, as the register spells them; or null where they are not published. */
+export async function askPlaces(round, programme, institute) {
+  const rows = institute && (await paper(`places-${round}-${institute}.csv`))?.split("\n").map((it) => it.split(","));
+  return rows ? new Map(rows.filter(([code]) => code === programme).map(([, candidate, place]) => [Number(candidate), place])) : null;
+}
+
 /** Returns whether a paper is there. */
 export async function hasPaper(name) {
   return (await fetched(`/season/${name}`, { cache: "no-cache", method: "HEAD" })).status === 200;

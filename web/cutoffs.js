@@ -58,5 +58,12 @@ export function compared(lines, { category, traits }, { place, isCommon }) {
   });
 }
 
+/** Returns compared steps in the order in which they explain a refusal: the nearest cutoff decides, so it comes first; last are steps whose lines are for others, and those that
+ * admit nobody more. */
+export function byNearness(steps) {
+  const far = (it) => (it.best ? it.place - it.best.place : it.lines.length ? Number.MAX_VALUE : Infinity);
+  return [...steps].sort((one, other) => (far(one) === far(other) ? 0 : far(one) - far(other)));
+}
+
 /** Returns the first step, in the order of the steps, within whose cutoffs somebody is, or undefined: it is the one whose seat it would be. */
 export const firstWithin = (steps) => steps.find((it) => it.isWithin);

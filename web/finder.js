@@ -1,10 +1,10 @@
 /** The cutoffs of all programmes on the page for anybody: a table with a search, and the programmes that would admit a place. */
 import { askCutoffs, paper } from "./ask.js";
 import { compared, firstWithin, bySteps, readCutoffs, readCutoffTable, readPlace } from "./cutoffs.js";
-import { $, clear, el, inParts, ownWords, say, show, table, valuesOf } from "./dom.js";
+import { $, clear, el, inParts, ownWords, say, sayFault, show, table, valuesOf } from "./dom.js";
 import { isCode, TRAITS } from "./rule.js";
-import { instituteName, instituteOf, isUsed, listName, papersCome, programmeName, programmeOf } from "./season.js";
-import { ASKING, CATEGORIES, CUTOFFS, FAULTS, HOLDS, kindOfSeat, LIKE, MOCK, NOT_DISABILITY, trouble } from "./words.js";
+import { instituteName, instituteOf, isUsed, listName, papersCome, placeOfRank, programmeName, programmeOf, rankListsOf, shownPlace } from "./season.js";
+import { ASKING, CATEGORIES, CUTOFFS, FAULTS, HOLDS, IN_ORDER, kindOfSeat, LIKE, MOCK, NOT_DISABILITY, trouble } from "./words.js";
 
 const AT_ONCE = 50;
 const LISTS = [1, 2, 3, 4];
@@ -27,7 +27,12 @@ async function tableOf(round) {
 const paperName = (kind, round) => (round === MOCK ? `mock-${kind}.csv` : `${kind}-${round}.csv`);
 const roundOf = (select) => (select.value === MOCK ? MOCK : Number(select.value));
 
-const caveats = (round, hasD) => el("ul", { class: "hint" }, CUTOFFS.caveats(round).map((it) => el("li", {}, it)), hasD && el("li", {}, el("strong", {}, NOT_DISABILITY)));
+/** What somebody has to know of the cutoffs of these programmes. */
+function caveats(round, programmes) {
+  const used = LISTS.filter((list) => programmes.some((it) => programmeOf(it.code)?.list === list));
+  const orders = used.map((it) => rankListsOf(it).map((one) => one.name)).filter((it) => it.length);
+  return el("ul", { class: "hint" }, [...orders.map(IN_ORDER), ...CUTOFFS.caveats(round)].map((it) => el("li", {}, it)), hasD(programmes) && el("li", {}, el("strong", {}, NOT_DISABILITY)));
+}
 const hasD = (programmes) => programmes.some((it) => it.lines.some((line) => line.step === "D"));
 
 // ---- all cutoffs, with a search
@@ -63,12 +68,15 @@ async function showOne(said, out, round, code) {
   showTable(out, round, [{ code, institute: instituteOf(code) ?? "", lines }]);
 }
 
+/** Returns lines of cutoffs with their places as candidates know them. */
+const shown = (code, lines) => lines.map((it) => ({ ...it, ...shownPlace(programmeOf(code)?.list, it.place) }));
+
 /** Shows a row for each programme, with a line for each kind of seat. */
 function showTable(out, round, programmes) {
   const line = (it) => el("li", {}, el("strong", {}, kindOfSeat(it.step)), " ", el("span", {}, CUTOFFS.ends(it.lines)));
-  const row = ({ code, institute, lines }) => [programmeName(code), instituteName(institute), el("ul", { class: "ends" }, bySteps(lines).map(line))];
+  const row = ({ code, institute, lines }) => [programmeName(code), instituteName(institute), el("ul", { class: "ends" }, bySteps(shown(code, lines)).map(line))];
   const part = (some) => table(CUTOFFS.caption(round, programmes.length), CUTOFFS.columns, some.map(row));
-  show(out, caveats(round, hasD(programmes)), ...inParts(programmes, AT_ONCE, CUTOFFS.more, part));
+  show(out, caveats(round, programmes), ...inParts(programmes, AT_ONCE, CUTOFFS.more, part));
 }
 
 // ---- which programmes are within the reach of a place
@@ -78,13 +86,26 @@ export function fillLike() {
   $("trait-boxes").append(...TRAITS.map((it) => el("label", { class: "check" }, el("input", { type: "checkbox", "data-trait": it }), ` ${HOLDS[it]}`)));
 }
 
-/** Names the merit lists as people know them, and leaves out those that no published programme uses. */
+/** Names the merit lists as people know them, and leaves out those that no published programme uses. Of a merit list that has several lists of ranks, somebody says which theirs is. */
 export function nameLists() {
   for (const it of LISTS) {
     const field = $(`place-${it}`);
     field.labels[0].textContent = listName(it);
     field.closest("p").hidden = !isUsed(it);
+    const lists = rankListsOf(it);
+    const from = $(`from-${it}`);
+    from.hidden = lists.length === 0;
+    from.setAttribute("aria-label", LIKE.of(listName(it)));
+    from.replaceChildren(...lists.map((one, at) => el("option", { value: at }, one.name)));
   }
+}
+
+/** Returns the place of what was typed for a merit list, null where nothing was, or undefined where the list has no such rank. */
+function placeTyped(list, text) {
+  const typed = readPlace(text);
+  const found = typed && placeOfRank(list, Number($(`from-${list}`).value), typed.place);
+  if (typed && !found) return undefined;
+  return typed && { place: found.place, isCommon: typed.isCommon && !found.isRelaxed };
 }
 
 /** Shows the programmes that would admit one person more with the category, the traits and the places that were typed. */
@@ -92,9 +113,11 @@ export async function showLike() {
   const [said, out] = [$("like-said"), $("like")];
   clear(out);
   say(said, "plain");
-  const texts = valuesOf(...LISTS.map((it) => [$(`place-${it}`), isPlaceOrNone, "place", (text) => text.trim().toUpperCase()]));
+  const texts = valuesOf(...LISTS.map((it) => [$(`place-${it}`), isPlaceOrNone, "place", (text) => text.trim().replaceAll(",", "").toUpperCase()]));
   if (!texts) return;
-  const places = texts.map(readPlace);
+  const places = texts.map((text, at) => placeTyped(at + 1, text));
+  const wrong = places.indexOf(undefined);
+  if (wrong >= 0) return sayFault($(`place-${wrong + 1}`), "noRank");
   const round = roundOf($("like-round"));
   if (!round) return say(said, "bad", FAULTS.round);
   if (!places.some(Boolean)) return say(said, "bad", LIKE.noPlace);
@@ -104,7 +127,7 @@ export async function showLike() {
   const entry = { category: $("category").value, traits: [...document.querySelectorAll("[data-trait]:checked")].map((it) => it.dataset.trait).join("") };
   const found = all.map((it) => wouldAdmit(it, entry, places)).filter(Boolean);
   say(said, "plain", found.length ? LIKE.caption(round, found.length) : LIKE.none(round));
-  if (found.length) show(out, LIKE.first, caveats(round, hasD(all)), ...inParts(found, AT_ONCE, CUTOFFS.more, (some) => table(LIKE.caption(round, found.length), LIKE.columns, some)));
+  if (found.length) show(out, LIKE.first, caveats(round, all), ...inParts(found, AT_ONCE, CUTOFFS.more, (some) => table(LIKE.caption(round, found.length), LIKE.columns, some)));
 }
 
 const isPlaceOrNone = (text) => text === "" || readPlace(text) !== null;
@@ -112,7 +135,7 @@ const isPlaceOrNone = (text) => text === "" || readPlace(text) !== null;
 /** Returns the row for a programme that would admit somebody, or null. */
 function wouldAdmit({ code, institute, lines }, entry, places) {
   const place = places[(programmeOf(code)?.list ?? 0) - 1];
-  const step = place && firstWithin(compared(lines, entry, place));
+  const step = place && firstWithin(compared(shown(code, lines), entry, place));
   if (!step) return null;
-  return [programmeName(code), instituteName(institute), kindOfSeat(step.step), CUTOFFS.ends([step.best]), LIKE.ahead(place.place, step.best.place)];
+  return [programmeName(code), instituteName(institute), kindOfSeat(step.step), CUTOFFS.ends([step.best]), LIKE.ahead(shownPlace(programmeOf(code).list, place.place), step.best)];
 }

@@ -8,8 +8,10 @@ import re
 
 # each document with the folder in which it is served, and its language
 DOCUMENTS = {
-    "docs/CANDIDATE.md": ("help/", "en"),
-    "docs/CANDIDATE.hi.md": ("help/hi/", "hi"),
+    "docs/HELP.md": ("help/", "en"),
+    "docs/HELP.hi.md": ("help/hi/", "hi"),
+    "docs/CANDIDATE.md": ("help/more/", "en"),
+    "docs/CANDIDATE.hi.md": ("help/more/hi/", "hi"),
     "docs/CHECKING.md": ("help/checking/", "en"),
     "docs/RULES.md": ("help/rules/", "en"),
 }

@@ -1,9 +1,10 @@
 /* Carries who is signed in from one page of a visit to the next. It runs apart from the pages, so it outlives the page that is left, and what it holds is in memory alone: nothing is
- * written anywhere. After half a minute without a word of a page, or when somebody signs out, it is gone. It answers no request of a page. */
+ * written anywhere. After two minutes without a word of a page, or when somebody signs out, it is gone. It answers no request of a page. */
 "use strict";
-const MOST = 30_000;
-// a page that was put aside may send late what it meant to send before
-const LATE = 10_000;
+// a slow machine over a slow connection takes a while from one page to the next
+const MOST = 120_000;
+// a page that was put aside may send late what it meant to send before, and so may a machine that is busy
+const LATE = 60_000;
 const held = new Map();
 const ended = new Set();
 

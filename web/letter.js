@@ -2,8 +2,9 @@
 import { serverTime } from "./ask.js";
 import { readPlace } from "./cutoffs.js";
 import { el, show, verbatim } from "./dom.js";
+import { headOf, reading } from "./own.js";
 import { lineOf, receiptsOf } from "./rule.js";
-import { contact, instituteName, instituteOf, listName, programmeName, programmeOf, rankOf, seasonTitles } from "./season.js";
+import { contact, instituteName, instituteOf, listName, programmeName, programmeOf, seasonTitles, shownPlace } from "./season.js";
 import { CATEGORIES, ENTRY, HOLDS, HOLDS_NOTHING, kindOfSeat, LETTER, NOT_DISABILITY } from "./words.js";
 
 const TOUCHES = ["pointerdown", "keydown"];
@@ -29,11 +30,11 @@ function rowsOf({ cand, application, seat, entry, answers, end }, standing, help
     [fields.kind, kindOfSeat(seat.step)],
     [fields.category, CATEGORIES[entry.category] ?? entry.category],
     [fields.traits, [...entry.traits].map((it) => HOLDS[it] ?? it).join(", ") || HOLDS_NOTHING],
-    [fields.place(programme && listName(programme.list)), place && ENTRY.place(place.place, place.isCommon, rankOf(programme.list, place.place), entry.category)],
+    [fields.place(programme && listName(programme.list)), place && ENTRY.place(shownPlace(programme.list, place.place), place.isCommon, entry.category)],
     [fields.round, seat.round],
     [fields.standing, standing],
     [fields.end, end && LETTER.time(end)],
-    [fields.receipt, last ? el("code", { lang: "en" }, lineOf(last)) : LETTER.noReceipt],
+    [fields.receipt, last ? [...reading(last), " ", el("code", { lang: "en" }, lineOf(last))] : LETTER.noReceipt],
     [fields.help, help?.text],
   ].filter(([, fact]) => fact);
 }
@@ -41,14 +42,18 @@ function rowsOf({ cand, application, seat, entry, answers, end }, standing, help
 /** Fills a region with the letter and prints it alone. */
 export async function printLetter(region, who, standing, isFinal) {
   const rows = rowsOf(who, standing, await contact()).map(([name, fact]) => el("tr", {}, el("th", { scope: "row" }, name), el("td", {}, fact)));
-  const own = [who.seat, who.state, who.entry, who.answers].map(lineOf).join("\n");
+  const replies = [who.seat, who.state, who.entry, who.answers];
   show(
     region,
     el("h1", {}, LETTER.title(isFinal)),
     el("table", {}, el("tbody", {}, rows)),
     who.seat.step === "D" && el("p", {}, el("strong", {}, NOT_DISABILITY)),
+    el("h2", {}, LETTER.use),
+    el("ul", {}, LETTER.uses(isFinal).map((it) => el("li", {}, it))),
     el("h2", {}, LETTER.own),
-    verbatim(own),
+    headOf(who),
+    el("ul", {}, replies.flatMap(reading).map((it) => el("li", {}, it))),
+    verbatim(replies.map(lineOf).join("\n")),
     LETTER.foot(location.origin, LETTER.time(serverTime())),
   );
   document.documentElement.dataset.prints = "letter";

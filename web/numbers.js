@@ -5,11 +5,13 @@ import { freshPaper, jsonPaper } from "./ask.js";
 const TURNS = 1_000;
 const BITS = 64;
 
-/** Returns an application number as the paper compares it. */
-export const bare = (text) => text.toUpperCase().replace(/[^A-Z0-9]/g, "");
+const signs = (text) => text.toUpperCase().replace(/[^A-Z0-9]/g, "");
+
+/** Returns an application number as the paper compares it: without the zeros before a number, which a spreadsheet program drops. */
+export const bare = (text) => signs(text).replace(/^0+(?=[0-9]+$)/, "");
 
 /** Returns whether a text looks like what boards give to people who apply: it has more digits than a candidate number, or letters too. */
-export const isLikeApplication = (text) => /^[A-Z]*[0-9]{6,}[A-Z0-9]*$/.test(bare(text)) && !/^[0-9]{1,9}$/.test(text);
+export const isLikeApplication = (text) => /^[A-Z]*[0-9]{6,}[A-Z0-9]*$/.test(signs(text)) && !/^[0-9]{1,9}$/.test(text);
 
 /** Returns the paper about application numbers, or null where the board has published none, or this browser can make no hash. */
 export async function numbersPaper() {

@@ -7,8 +7,8 @@ const MOST_BOXES = 120;
 const MOST_EMPTY = 12;
 
 /** Makes the boxes of a step. `own` is the number of the candidate who looks, or null; `hasProtected` says whether the step has protected seats, so that
- * a box names the others too. */
-function boxes(step, own, hasProtected) {
+ * a box names the others too. `placeOf` gives the words for the place of a candidate at a step, or null where it is not published. */
+function boxes(step, own, hasProtected, placeOf) {
   const rank = new Map(step.rows.map((row, at) => [row, at + 1]));
   const taken = (row) =>
     el(
@@ -16,7 +16,7 @@ function boxes(step, own, hasProtected) {
       { class: `${row.slot === "-" ? "" : "protected"} ${row.id === own ? "own" : ""}` },
       el("span", {}, SEATS.candidate, " ", el("strong", {}, row.id)),
       row.slot !== "-" ? el("span", {}, SEATS.protectedFor(row.slot)) : hasProtected && el("span", {}, SEATS.byMerit),
-      el("span", {}, SEATS.rank(rank.get(row))),
+      el("span", {}, placeOf(row.id, step.name) ?? SEATS.rank(rank.get(row))),
       row.id === own && el("span", { class: "you" }, SEATS.you),
     );
   const letters = TRAITS.flatMap((trait) => step.rows.filter((row) => row.slot === trait));
@@ -38,7 +38,7 @@ function grid(step, all) {
   return [shown, more];
 }
 
-function stepPicture(step, protect, own) {
+function stepPicture(step, protect, own, placeOf) {
   const all = protect && Object.values(protect).reduce((sum, one) => sum + one, 0);
   const fault = stepFault(step, protect);
   const hidden = step.seats - step.rows.length - MOST_EMPTY;
@@ -49,20 +49,20 @@ function stepPicture(step, protect, own) {
     el("h4", {}, kindOfSeat(step.name, step.seats)),
     el("p", {}, `${SEATS.summary(step)} ${step.name === "D" ? "" : SEATS.protections(step.honoured, all)}`),
     fault && el("p", { class: "say bad" }, SEATS.wrong(fault)),
-    grid(step, boxes(step, own, all > 0 || step.honoured > 0)),
+    grid(step, boxes(step, own, all > 0 || step.honoured > 0, placeOf)),
     step.honoured > 0 && el("p", { class: "hint" }, SEATS.lettersSay),
     hidden > 0 && el("p", {}, SEATS.moreEmpty(hidden)),
     unfilled.filter(([, left]) => left > 0).map((it) => el("p", {}, SEATS.unfilled(...it))),
   );
 }
 
-/** Shows a list: a box for each step with seats, and the office's own text. `programme` has the protected seats, or is undefined. */
-export function listPicture(list, text, programme, own = null) {
+/** Shows a list: a box for each step with seats, and the office's own text. `programme` has the protected seats, or is undefined. `placeOf` gives the words for the place of a candidate. */
+export function listPicture(list, text, programme, own = null, placeOf = () => null) {
   const [some, none] = [list.steps.filter((it) => it.seats > 0), list.steps.filter((it) => it.seats === 0)];
   return el(
     "div",
     {},
-    some.map((step) => stepPicture(step, programme ? (programme.steps[step.name]?.protect ?? {}) : null, own)),
+    some.map((step) => stepPicture(step, programme ? (programme.steps[step.name]?.protect ?? {}) : null, own, placeOf)),
     some.length === 0 && el("p", {}, SEATS.nothing),
     some.length > 0 && none.length > 0 && el("p", { class: "hint" }, SEATS.without(none.map((it) => [it.name, it.candidates]))),
     details(OWN_WORDS, verbatim(text)),

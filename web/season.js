@@ -1,8 +1,9 @@
 /** What all pages show of the season: how far it is, when its window closes, the office's notice, and its programmes where they are published. */
 import { askState, freshPaper, jsonPaper, serverTime } from "./ask.js";
 import { details, el, offerCodes, ownWords, say, show, verbatim } from "./dom.js";
+import { placeOf, rankAt, rankLists } from "./ranks.js";
 import { lineOf } from "./rule.js";
-import { ASKING, called, CLOSES, ENTRY, HELP, NOTICE, OWN_WORDS, RANK, named, phase, trouble, WAITING } from "./words.js";
+import { ASKING, called, CLOSES, ENTRY, HELP, NOTICE, OWN_WORDS, named, phase, trouble, WAITING } from "./words.js";
 
 const HALF_MINUTE = 30_000;
 // how often an open page looks whether the season has moved on: seldom, since many pages are open
@@ -19,8 +20,8 @@ async function fetchPapers() {
   if (found) {
     // a name in the language of the page, where the papers have one
     const both = (it) => new Map([...textsOf(found[it]), ...textsOf(found[document.documentElement.lang]?.[it])]);
-    const [programmes, short, institutes, lists, ranks] = ["programmes", "short", "institutes", "lists", "ranks"].map(both);
-    names = { programmes, short, institutes, lists, ranks, titles: [found.board, found.season] };
+    const [programmes, short, institutes, lists] = ["programmes", "short", "institutes", "lists"].map(both);
+    names = { programmes, short, institutes, lists, ranks: rankLists(both("ranks")), titles: [found.board, found.season] };
   }
   // what is not published yet, or did not arrive, may come later
   if (known.size === 0) coming = null;
@@ -50,12 +51,31 @@ export function seatName(code) {
 /** Returns a merit list by its name, or by its number. */
 export const listName = (number) => names.lists.get(String(number)) ?? ENTRY.list(number);
 
-/** Returns the board's own rank that a place stands for, with the name of its list, or null where the place is that rank, or the papers do not say it.
- * The places of a merit list behind a published number are the ranks of another list. */
-export function rankOf(list, place) {
-  const begins = [...names.ranks].map(([code, name]) => ({ name, of: code.split("-").map(Number) })).filter(({ of: [its, first] }) => its === list && first < place);
-  const last = begins.sort((one, other) => one.of[1] - other.of[1]).at(-1);
-  return last ? RANK(last.name, place - last.of[1]) : null;
+const nameOfRanks = (list, of) => of && (of.name ?? listName(list));
+
+/** Returns the lists of ranks that a merit list is made of, the best first, each with its name; none where its places are ranks. */
+export const rankListsOf = (list) => (names.ranks.get(list) ?? []).map((it) => ({ ...it, name: nameOfRanks(list, it) }));
+
+/** Returns a place of a merit list as the candidate knows it: the rank, the name of its list of ranks, or null where the place is the rank, and whether the office writes it otherwise. */
+export function shownPlace(list, place) {
+  const { rank, of } = rankAt(names.ranks.get(list), place);
+  return { rank, of: nameOfRanks(list, of), isJoined: rank !== place };
+}
+
+/** Returns a published place of somebody else in the same way. A list of ranks that is behind others and not relaxed is of persons with disabilities, and is not named: `behind` has the
+ * list that it comes after. */
+export function publishedPlace(list, place) {
+  const all = names.ranks.get(list) ?? [];
+  const { of } = rankAt(all, place);
+  return of && of.first > 0 && !of.isRelaxed ? { rank: null, behind: nameOfRanks(list, all[all.indexOf(of) - 1]) } : shownPlace(list, place);
+}
+
+/** Returns the place of a rank that somebody has in one of the lists of ranks of a merit list, counted from 0, and whether it is relaxed; or null where the list has no such rank. */
+export function placeOfRank(list, at, rank) {
+  const all = names.ranks.get(list);
+  if (!all) return { place: rank, isRelaxed: false };
+  const place = placeOf(all, all[at], rank);
+  return place && { place, isRelaxed: all[at].isRelaxed };
 }
 
 /** Returns whether a published programme uses a merit list; where none is published, each may be used. */

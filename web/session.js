@@ -7,9 +7,11 @@ const IDLE = 15 * 60 * 1000;
 // two minutes before, the page asks whether somebody is there
 const WARNING = 13 * 60 * 1000;
 const TOUCHES = ["keydown", "input", "pointerdown", "wheel", "touchstart"];
-// how often and how long the next page asks for what the one before left: that page may still be going while this one is there
-const ASKS = 14;
+// How long the next page asks for what the one before left. On a slow machine hold.js takes a while to answer at all, and the page before may still be going: so the page goes on for a
+// moment after an answer that there is nothing, and for longer while there is no answer.
 const SOON = 150;
+const AFTER_NOTHING = 3_000;
+const WITHOUT_ANSWER = 30_000;
 const VISIT = "visit:";
 const EVERY = 15_000;
 
@@ -83,9 +85,10 @@ function holdOn(who) {
   put();
 }
 
-/** Starts what carries a sign-in to the next page, and returns whether it can. Where a browser does not allow it, the next page asks for the token
- * again. The name of the tab says which visit it is, and opens nothing. */
+/** Starts what carries a sign-in to the next page, and returns whether it can. Where a browser does not allow it, the next page says so, and asks for the token
+ * again. The name of the tab says which visit it is, and opens nothing. It is there at once, so that the next page knows of the visit also if this one is left before it can carry. */
 export async function carry(who) {
+  window.name = VISIT + [...crypto.getRandomValues(new Uint32Array(4))].map((it) => it.toString(16)).join("");
   try {
     // the one address from which this page may start a script by name
     const address = globalThis.trustedTypes?.createPolicy("hold", { createScriptURL: () => "/hold.js" }).createScriptURL("") ?? "/hold.js";
@@ -95,15 +98,14 @@ export async function carry(who) {
     worker = null;
   }
   if (!worker || !who.token) return false;
-  window.name = VISIT + [...crypto.getRandomValues(new Uint32Array(4))].map((it) => it.toString(16)).join("");
   holdOn(who);
   return true;
 }
 
-/** Leaves a sign-in for the next page of this tab. */
+/** Leaves a sign-in for the next page of this tab, if this one is on a visit. */
 export function leaveForNext(who) {
   clearInterval(beat);
-  if (who?.token) tell(kept(who));
+  if (who?.token && isVisit()) tell(kept(who));
 }
 
 /** Ends the visit on all pages of this tab. */
@@ -135,16 +137,23 @@ export async function takeFromLast() {
   }
 }
 
-/** Asks for what the page before left, again and again for a moment, and returns it or null. */
+/** Asks for what the page before left, again and again, and returns it; or null if there is nothing, or no answer comes. */
 function taken() {
   return new Promise((then) => {
-    const asks = (left) => {
-      if (left === 0) return then(null);
-      const { port1, port2 } = new MessageChannel();
-      port1.onmessage = ({ data }) => data && then(data);
-      tell({}, [port2]);
-      setTimeout(asks, SOON, left - 1);
+    let ends = performance.now() + WITHOUT_ANSWER;
+    let isAnswered = false;
+    const heard = ({ data }) => {
+      if (data) return then(data);
+      if (!isAnswered) ends = performance.now() + AFTER_NOTHING;
+      isAnswered = true;
     };
-    asks(ASKS);
+    const asks = () => {
+      if (performance.now() > ends) return then(null);
+      const { port1, port2 } = new MessageChannel();
+      port1.onmessage = heard;
+      tell({}, [port2]);
+      setTimeout(asks, SOON);
+    };
+    asks();
   });
 }

@@ -1,16 +1,25 @@
 /** The line about who is signed in, on pages that ask nothing in a candidate's name: it keeps the sign-in of a visit until the candidate comes back to their own page, or signs out. */
 import { $, onPress } from "./dom.js";
-import { endVisit, leaveForNext, leaveInTime, takeFromLast } from "./session.js";
+import { endVisit, isVisit, leaveForNext, leaveInTime, takeFromLast } from "./session.js";
 import { VISIT } from "./words.js";
 
 let visitor = null;
 
 async function comesBack() {
+  if (!isVisit()) return;
   const found = await takeFromLast();
-  if (!found) return;
+  if (!found) return isVisit() && lost();
   visitor = found;
   $("visit").hidden = $("sign-out").hidden = false;
   $("visit-text").textContent = VISIT.signedIn(found.cand);
+}
+
+/** Says that the sign-in of this visit did not come to this page: nobody is signed out without a word. */
+function lost() {
+  endVisit();
+  $("visit").hidden = false;
+  $("visit-text").textContent = VISIT.lost;
+  $("sign-out").hidden = true;
 }
 
 function leave(cause) {

@@ -31,7 +31,10 @@ export const LABELS = {
 
   anybodyHead: "लिस्टें और जाँच - सीट आवंटन कार्यालय",
   anybodyTitle: "लिस्टें और जाँच",
-  anybodyIntro: "यहाँ कोई भी देख सकता है कि कौन-सी सीट किसे मिली और कट-ऑफ़ क्या रहे, और यह जाँच सकता है कि सीट न मिलना सही था या नहीं। टोकन की ज़रूरत नहीं है।",
+  anybodyIntro: "यहाँ कोई भी देख सकता है कि कौन-सी सीट किसे मिली और कट-ऑफ़ क्या रहे। इसके लिए टोकन की ज़रूरत नहीं है।",
+  mineTitle: "क्या आपको सीट नहीं मिली?",
+  mineIntro: "अपने नंबर और टोकन से साइन इन करें। तब पन्ना आपकी लिस्ट के हर प्रोग्राम के लिए बताता है कि उसकी सीटें किस रैंक तक गईं, आपकी रैंक उससे कितनी पीछे है, और सीट न मिलना सही है या नहीं।",
+  mineCheck: "सीट न मिलने की जाँच करें",
   haveLetter: "क्या आपके पास बोर्ड का पत्र है?",
   seeSeat: "अपनी सीट देखें",
   stateTitle: "काउंसलिंग कहाँ तक पहुँची",
@@ -58,8 +61,9 @@ export const LABELS = {
   findNumber: "उम्मीदवार खोजें",
   findHint: "एक ही पंक्ति चाहिए तो उम्मीदवार नंबर",
   showRound: "परिणाम दिखाएँ",
-  checkTitle: "स्टेप की शीट से जाँच करें",
-  checkIntro: "यह जाँच क्लर्क और अदालत के लिए है, क्योंकि शीट में सभी उम्मीदवारों के नंबर और उनकी विशेष श्रेणियाँ होती हैं। सीट न मिलना तभी सही है जब दोनों सवालों का जवाब नहीं हो:",
+  checkTitle: "क्लर्क और अदालत के लिए",
+  checkOpen: "स्टेप की शीट से जाँच करें",
+  checkIntro: "उम्मीदवार को शीट की ज़रूरत नहीं: ऊपर “सीट न मिलने की जाँच करें” काफ़ी है। यह जाँच क्लर्क और अदालत के लिए है, क्योंकि शीट में सभी उम्मीदवारों के नंबर और उनकी विशेष श्रेणियाँ होती हैं। सीट न मिलना तभी सही है जब दोनों सवालों का जवाब नहीं हो:",
   question1: "क्या क्षैतिज आरक्षित सीटें भरने के लिए इस उम्मीदवार की ज़रूरत है?",
   question2: "अगर नहीं, तो क्या इस उम्मीदवार के लिए कोई सीट बचती है?",
   checkSheet: "जवाब के लिए पन्ने को स्टेप की शीट चाहिए: उसकी सीटें, उसकी क्षैतिज आरक्षित सीटें, और मेरिट क्रम में उसके सभी उम्मीदवार। पन्ना सारा काम इसी डिवाइस पर करता है और शीट किसी को नहीं भेजता।",
@@ -119,6 +123,7 @@ export const FAULTS = {
   seats: "नई संख्या 1 से 4,000 के बीच की पूरी संख्या होती है।",
   round: "अभी कोई राउंड प्रकाशित नहीं हुआ है।",
   place: "रैंक एक संख्या है, और छूट वाली हो तो उसके बाद R।",
+  noRank: "इस लिस्ट में ऐसी रैंक नहीं है। देखें कि आपकी रैंक किस लिस्ट की है।",
 };
 
 export const NO = "नहीं, वापस जाएँ";
@@ -146,6 +151,7 @@ export const NUMBERS = {
 export const VISIT = {
   signedIn: (cand) => `आप उम्मीदवार ${cand} के रूप में साइन इन हैं।`,
   left: { idle: "15 मिनट से किसी ने पन्ना नहीं छुआ, इसलिए उसने आपको साइन आउट कर दिया।", asked: "आप साइन आउट हो गए हैं। पन्ना आपका टोकन भूल चुका है।" },
+  lost: "आप साइन इन थे, पर आपके ब्राउज़र ने यह बात इस पन्ने तक नहीं पहुँचाई। अपने टोकन से फिर साइन इन करें। आपने कार्यालय को जो भेजा है, वह सुरक्षित है।",
 };
 
 /** Whom to ask, where the board has published it. */
@@ -265,23 +271,43 @@ export const ARRIVING = (bytes) => `${figure(Math.ceil(bytes / 100_000) / 10)} M
 export const NOTICE = "कार्यालय की सूचना";
 export const OWN_WORDS = "कार्यालय के अपने शब्द";
 
+/** A moment with its year, by the clock of India. */
+export const MOMENT = (ms) => `${clock(ms)} (भारतीय समय)`;
+
+/** What the office's own words say. */
+export const OWN = {
+  head: ({ cand, application, time }) => `कार्यालय ने उम्मीदवार ${cand} के बारे में${application ? ` (आवेदन नंबर ${application})` : ""} यह बताया: ${time}। उसकी अपनी पंक्तियाँ हमेशा अंग्रेज़ी में होती हैं, और अदालत उन्हीं को मिलाती है।`,
+  seat: ({ round, seat, kind, answer, isOpen }) =>
+    seat ? `राउंड ${round} से आपकी सीट ${seat} में है। सीट का प्रकार: ${kind}।${answer ? ` आपका जवाब: ${answer}।` : isOpen ? " आपने अभी जवाब नहीं दिया है।" : ""}` : round ? `राउंड ${round} में आपके पास सीट नहीं है।` : "अभी कोई राउंड प्रकाशित नहीं हुआ है, इसलिए आपके पास सीट नहीं है।",
+  register: (category, traits, places) => `रजिस्टर में आपका विवरण: वर्ग ${category}, विशेष श्रेणियाँ: ${traits}। ${places.length ? `आपकी रैंक: ${places.join("; ")}।` : "किसी मेरिट लिस्ट में आपकी रैंक नहीं है।"}`,
+  choices: (programmes) => `आपकी चॉइस लिस्ट: ${programmes.map((it, at) => `${at + 1}. ${it}`).join("; ")}।`,
+  noChoices: "आपकी चॉइस लिस्ट खाली है।",
+  noted: ({ window, turn, answer }) => `विंडो ${window} में कार्यालय ने आपका जवाब ${answer} दर्ज किया; इस विंडो में जवाब नंबर ${turn}।`,
+  why: (programme, round) => `राउंड ${round} में ${programme} के लिए कार्यालय का बताया कारण, अक्षरशः। वह क्या कहता है, यह ऊपर है।`,
+  refused: (programme, round) => `राउंड ${round} में ${programme} के लिए कार्यालय का बताया कारण और उसके कट-ऑफ़, अक्षरशः। वे क्या कहते हैं, यह ऊपर है।`,
+};
+
 // ---- cutoffs
 
-const placed = (place) => (place === Infinity ? "किसी भी रैंक पर" : figure(place));
+/** A rank with its list of ranks, where a merit list has several and it is not `said`: `3,004 (Rank SC)`. */
+const ranked = ({ rank, of }, said = null) => `${rank === Infinity ? "किसी भी रैंक पर" : figure(rank)}${of && of !== said ? ` (${of})` : ""}`;
+
+/** The ranks of some lines, each with its list of ranks where that is another one than before. */
+const ranksOf = (lines) => lines.map((it, at) => ranked(it, lines[at - 1]?.of));
 
 /** Where a kind of seat ends, for everybody and for those who hold traits: `8,017 · महिलाएँ 9,846`. */
-const ends = (lines) => lines.map(({ traits, place }) => `${traits ? `${holders(traits)} ` : ""}${placed(place)}`).join(" · ");
+const ends = (lines) => ranksOf(lines).map((it, at) => (lines[at].traits ? `${holders(lines[at].traits)} ${it}` : it)).join(" · ");
 
 /** The same as a sentence about a kind of seat: `ओपन सीटें रैंक 8,017 तक (महिलाएँ 9,846)।` */
 function endOf(step, lines) {
-  const [first, ...others] = lines;
-  const more = ends(others).replaceAll(" · ", ", ");
-  if (first.traits) return `${kindOfSeat(step)} केवल इनके लिए: ${ends(lines).replaceAll(" · ", ", ")}।`;
-  return `${kindOfSeat(step)} ${first.place === Infinity ? "किसी भी रैंक पर" : `रैंक ${figure(first.place)} तक`}${more ? ` (${more})` : ""}।`;
+  const [first, ...others] = ranksOf(lines);
+  if (lines[0].traits) return `${kindOfSeat(step)} केवल इनके लिए: ${ends(lines).replaceAll(" · ", ", ")}।`;
+  const more = others.map((it, at) => `${holders(lines[at + 1].traits)} ${it}`).join(", ");
+  return `${kindOfSeat(step)} ${lines[0].rank === Infinity ? "किसी भी रैंक पर" : `रैंक ${first} तक`}${more ? ` (${more})` : ""}।`;
 }
 
-/** The board's own rank that a place stands for. */
-export const RANK = (list, rank) => `${list}: ${figure(rank)}`;
+/** How the lists of ranks follow each other in a merit list. */
+export const IN_ORDER = (lists) => `कार्यालय इन लिस्टों को एक के पीछे एक रखता है: ${lists.join(", ")}। इसलिए एक लिस्ट की हर रैंक उसके पीछे वाली लिस्टों की सभी रैंकों से बेहतर है।`;
 
 export const CUTOFFS = {
   columns: ["प्रोग्राम", "संस्थान", "किस रैंक तक"],
@@ -309,7 +335,8 @@ export const LIKE = {
   noPlace: "कम से कम एक रैंक भरें।",
   noPaper: "सभी प्रोग्रामों के कट-ऑफ़, या प्रोग्राम ही, यहाँ प्रकाशित नहीं हैं। इसलिए पन्ना मिलान नहीं कर सकता।",
   first: "सीट का प्रकार वह है जो कार्यालय के क्रम में सबसे पहले आता है और जिसके कट-ऑफ़ के भीतर आप हैं। सीट उसी प्रकार की होती।",
-  ahead: (place, best) => (best === Infinity ? figure(place) : best === place ? `${figure(place)}, भीतर की आख़िरी` : `${figure(place)}, ${figure(best - place)} से भीतर`),
+  of: (list) => `${list} में आपकी रैंक किस लिस्ट की है?`,
+  ahead: (own, best) => `${ranked(own)}${best.rank === Infinity || best.of !== own.of ? "" : best.rank === own.rank ? ", भीतर की आख़िरी" : `, ${figure(best.rank - own.rank)} से भीतर`}`,
 };
 
 // ---- lists and rounds
@@ -332,6 +359,7 @@ export const SEATS = {
   byMerit: "बिना क्षैतिज आरक्षण वाली सीट",
   candidate: "उम्मीदवार",
   rank: (rank) => `इस लिस्ट में क्रम ${figure(rank)}`,
+  place: (it, isBetter) => `रैंक ${it.rank === null ? `${it.behind} की सभी रैंकों के पीछे` : ranked(it)}${isBetter === null ? "" : isBetter ? ": आपसे बेहतर" : ": आपसे पीछे"}`,
   you: "यह आप हैं",
   lettersSay: "डिब्बा बताता है कि उम्मीदवार कौन-सी क्षैतिज आरक्षित सीट भरता है। वह यह नहीं बताता कि उम्मीदवार को प्रवेश उसी के कारण मिला।",
   empty: "खाली",
@@ -430,15 +458,17 @@ export const ENTRY = {
   open: "देखें कि रजिस्टर में आपके बारे में क्या लिखा है",
   seen: "दूसरे आपके बारे में क्या देख सकते हैं",
   public: [
-    "जहाँ बोर्ड राउंड और लिस्टें प्रकाशित करता है, वहाँ हर कोई आपका उम्मीदवार नंबर, आपकी सीट और उसका प्रकार पढ़ सकता है, और यह भी कि आप कौन-सी क्षैतिज आरक्षित सीट भरते हैं। कार्यालय की अपनी लिस्टें उसकी विशेष श्रेणी एक अक्षर से बताती हैं, दिव्यांगों की भी।",
+    "जहाँ बोर्ड राउंड और लिस्टें प्रकाशित करता है, वहाँ हर कोई आपका उम्मीदवार नंबर, आपकी सीट और उसका प्रकार पढ़ सकता है, और यह भी कि आप कौन-सी क्षैतिज आरक्षित सीट भरते हैं। कार्यालय की अपनी लिस्टें उसकी विशेष श्रेणी एक अक्षर से बताती हैं, दिव्यांगों की भी। अगर बोर्ड रैंक भी प्रकाशित करे, तो जब तक आपके पास सीट है, आपकी रैंक भी उनमें होती है।",
     "रजिस्टर का विवरण, आपकी चॉइस लिस्ट, आपके जवाब और आपकी रसीदें केवल आपके और क्लर्क के लिए हैं। काउंसलिंग जाँचने वाली अदालत को भी वे मिलते हैं।",
     "कार्यालय नाम, अंक या पते नहीं जानता।",
   ],
   fields: { category: "वर्ग", traits: "आपकी विशेष श्रेणियाँ", place: (list) => `${list} में रैंक` },
   list: (number) => `मेरिट लिस्ट ${number}`,
   // the category GEN has no seats of its own
-  place: (place, isCommon, rank, category) =>
-    `${figure(place)}${rank ? ` (${rank})` : ""}, ${isCommon ? `बिना छूट वाली रैंक: ओपन सीटों के लिए${category === "GEN" ? "" : " और आपके वर्ग की सीटों के लिए"} गिनी जाती है` : "छूट वाली रैंक: केवल आपके वर्ग की सीटों के लिए"}`,
+  place: (own, isCommon, category) =>
+    `${ranked(own)}, ${isCommon ? `बिना छूट वाली रैंक: ओपन सीटों के लिए${category === "GEN" ? "" : " और आपके वर्ग की सीटों के लिए"} गिनी जाती है` : "छूट वाली रैंक: केवल आपके वर्ग की सीटों के लिए"}`,
+  short: (own, isCommon, list) => `${ranked(own)}${own.of ? "" : ` (${list})`}${isCommon ? "" : ", छूट वाली"}`,
+  joined: (place, own) => `कार्यालय के अपने शब्दों में आपकी रैंक ${ranked(own)} की जगह ${place} है: वहाँ लिस्टें एक के पीछे एक हैं।`,
   nowhere: "किसी मेरिट लिस्ट में आपकी रैंक नहीं है।",
 };
 
@@ -468,7 +498,7 @@ export const STATE = {
     offered: ({ isLast }) => [isLast ? "यह आख़िरी विंडो है: नाम वापस लेने के सिवा हर जवाब से यही सीट आपका अंतिम प्रवेश बनेगी।" : "यह सीट आपको पहली बार मिली है।"],
     kept: ({ choice, isLast, window, by }) => [
       isLast ? "यह विंडो बंद होते ही यही सीट आपका अंतिम प्रवेश बन जाएगी।" : `आपका जवाब ${choice} है, और जब तक आप न बदलें, यही मान्य रहेगा।`,
-      `आपको कुछ करने की ज़रूरत नहीं। ${by ? `${by} तक` : `विंडो ${window} बंद होने तक`} ${isLast ? "आप केवल नाम वापस ले सकते हैं" : "आप अपना विकल्प बदल सकते हैं"}।`,
+      `आपको कुछ करने की ज़रूरत नहीं। ${by ? `${by} तक` : `विंडो ${window} बंद होने तक`} ${isLast ? "आप अब भी नाम वापस ले सकते हैं" : "आप अपना विकल्प बदल सकते हैं"}।`,
     ],
     admitted: () => ["यह प्रवेश अंतिम है।", "अब अपना पत्र छापें, और बोर्ड तथा संस्थान की सूचनाएँ देखें: वे बताती हैं कि कब और कहाँ पहुँचना है।"],
     without: ({ hasSpecial }) => [hasSpecial ? SEAT.noSpecial : SEAT.special],
@@ -567,7 +597,7 @@ export const ANSWER = {
   now: "आपका अभी का जवाब",
   closed: (choice, left) => `${CHOICES[choice].name} अब आपके लिए खुला नहीं है: पिछली विंडो बंद होते समय आपका जवाब ${left} था।`,
   full: "इस विंडो में कार्यालय के पास आपके 16 जवाब हैं। अब वह केवल नाम वापस लेना स्वीकार करता है।",
-  used: (turns) => `इस विंडो में कार्यालय के पास ${turns === 1 ? "आपका 1 जवाब है" : `आपके ${figure(turns)} जवाब हैं`}। वह 16 तक जवाब लेता है, और उनके बाद केवल नाम वापस लेना।`,
+  used: (turns) => `इस विंडो में कार्यालय के पास ${turns === 1 ? "आपका 1 जवाब है" : `आपके ${figure(turns)} जवाब हैं`}। वह एक विंडो में कुल 16 जवाब लेता है, और उसके बाद केवल नाम वापस लेना।`,
   sure: (choice) => `${CHOICES[choice].name}?`,
   sureTick: (seat) => (seat ? "मेरी यह सीट हमेशा के लिए छोड़ी जाए।" : "काउंसलिंग से मेरा नाम हमेशा के लिए वापस लिया जाए।"),
   sending: "आपका जवाब भेजा जा रहा है …",
@@ -581,15 +611,27 @@ export const ANSWER = {
   cameEnd: (seat) => `आपके जवाब देते समय अंतिम प्रवेश तय हो गए। ${seat ? `आपको ${seat} में प्रवेश मिला है।` : "आपके पास सीट नहीं है।"}`,
   save: "रसीद सेव करें",
   print: "छापें",
-  file: (receipt, seat, origin, time) => `${receipt}\n\n${seat}\nकार्यालय ${origin}\nइस डिवाइस की घड़ी ${time}\n`,
+  when: ({ seat, at, body: { window, turn } }) => `वह ${at} पहुँचा${seat ? `; आपकी सीट: ${seat}` : ""}। विंडो ${window} में यह आपका जवाब नंबर ${turn} है।`,
+  facts: ({ cand, application, seat, at, body }) => [
+    "जवाब की रसीद",
+    `उम्मीदवार: ${cand}`,
+    ...(application ? [`आवेदन नंबर: ${application}`] : []),
+    `जवाब: ${CHOICES[body.choice]?.name ?? body.choice}`,
+    ...(seat ? [`सीट: ${seat}`] : []),
+    `विंडो: ${body.window}, उसमें जवाब नंबर ${body.turn}`,
+    `पहुँचने का समय: ${at}`,
+  ],
+  file: (facts, own, origin) => `${facts.join("\n")}\n\nकार्यालय के अपने शब्द:\n${own}\nकार्यालय ${origin}\n`,
   fileName: ({ cand, window, turn }) => `receipt-${cand}-window-${window}-turn-${turn}.txt`,
 };
 
 export const RECEIPTS = {
-  columns: ["विंडो", "बारी", "जवाब", "रसीद"],
+  columns: ["विंडो", "उसमें जवाब नंबर", "जवाब", "रसीद"],
   caption: "आपके जवाब, उसी क्रम में जिसमें कार्यालय ने उन्हें लिया",
   window: (window) => `विंडो ${window}`,
   none: "कार्यालय के पास आपका कोई जवाब नहीं है।",
+  noTimes: "कार्यालय आपके जवाबों का क्रम रखता है, समय नहीं। जवाब देते समय जो रसीद आप सेव करते हैं, उसमें समय भी होता है।",
+  file: (head, says, lines) => `${head}\n\n${says.join("\n")}\n\nकार्यालय के अपने शब्द:\n${lines.join("\n")}\n`,
   save: "सारी रसीदें सेव करें",
   fileName: (cand) => `receipts-${cand}.txt`,
 };
@@ -599,7 +641,7 @@ export const WHY = {
   list: "आपकी चॉइस लिस्ट:",
   emptyList: "आपकी चॉइस लिस्ट खाली है।",
   first: (seat) => `आपके पास ${seat} है, जो आपकी लिस्ट का पहला प्रोग्राम है। इसलिए बताने को कुछ नहीं है।`,
-  heading: (place, programme) => `${place}. ${programme}`,
+  heading: (place, programme, round) => `${place}. ${programme} (राउंड ${round})`,
   asking: (programme) => `${programme} के बारे में पूछा जा रहा है …`,
   admitted: (round, step) => `राउंड ${round} में आपको यहाँ सीट मिली है। सीट का प्रकार: ${kindOfSeat(step)}।`,
   gone: { withdrawn: "उसके बाद आपने नाम वापस ले लिया, इसलिए वह सीट चली गई।", noshow: "आपने समय पर जवाब नहीं दिया, इसलिए वह सीट चली गई।" },
@@ -616,9 +658,11 @@ export const WHY = {
     `${seats === 1 ? "एकमात्र सीट भर चुकी है" : `सभी ${figure(seats)} सीटें भर चुकी हैं`}। आपसे नीचे की रैंक वाले किसी को सीट मिली है। ऐसे किसी भी उम्मीदवार की जगह आपको रखने पर कम क्षैतिज आरक्षित सीटें भरतीं।`,
   nowhere: "यहाँ किसी प्रकार की सीट आपके लिए खुली नहीं थी।",
   // what a step admits, and how far that is from the place of the candidate
-  compare: ({ step, lines, best, place, isWithin }) =>
-    lines.length === 0 ? `${kindOfSeat(step)} अब किसी और को नहीं मिल सकतीं।` : `${endOf(step, lines)} ${isWithin ? WITHIN : best === null ? NOT_YOU : BEHIND(best, place)}`,
-  counts: (place, list, rank) => `यहाँ ${list} वाली आपकी रैंक गिनी जाती है: ${figure(place)}${rank ? ` (${rank})` : ""}।`,
+  compare: ({ step, lines, best, own, isWithin }) =>
+    lines.length === 0 ? `${kindOfSeat(step)} अब किसी और को नहीं मिल सकतीं।` : `${endOf(step, lines)} ${isWithin ? WITHIN : best === null ? NOT_YOU : BEHIND(best, own)}`,
+  further: "बाकी प्रकार की सीटें भी आपको नहीं मिल सकतीं:",
+  relaxed: "ओपन और आरक्षण से मुक्त की गई सीटें यहाँ आपके लिए नहीं हैं, क्योंकि आपकी रैंक छूट वाली है: वह केवल आपके वर्ग की सीटों के लिए गिनी जाती है।",
+  counts: (own, list) => `यहाँ ${own.of ?? list} वाली आपकी रैंक गिनी जाती है: ${figure(own.rank)}।`,
   within: "कट-ऑफ़ के अनुसार यह प्रोग्राम आपको मिलना चाहिए था। कुछ गड़बड़ है: कट-ऑफ़ और कारण कार्यालय को दिखाएँ।",
   whichPlace: "पन्ने को पता नहीं कि इस प्रोग्राम में आपकी कौन-सी रैंक गिनी जाती है। उसे इन प्रकाशित कट-ऑफ़ से मिलाएँ:",
   line: ({ step, lines }) => endOf(step, lines),
@@ -628,6 +672,8 @@ export const WHY = {
   seats: (programme) => `${programme} की सीटें किसे मिलीं`,
   next: (number) => `अगले ${number} के कारण बताएँ`,
   below: (programme) => `आपके पास ${programme} है। जब तक वह है, आपकी लिस्ट में उससे नीचे के प्रोग्रामों से फ़र्क़ नहीं पड़ता।`,
+  yours: (own) => `वहाँ आपकी रैंक ${ranked(own)} है। जिन प्रकार की सीटों के लिए आप पर विचार हुआ, उनके हर डिब्बे में लिखा है कि उसकी रैंक आपसे बेहतर है या नहीं।`,
+  noPlaces: "बोर्ड ने इन उम्मीदवारों की रैंक प्रकाशित नहीं की है, इसलिए हर डिब्बे में लिस्ट का क्रम है। अपनी रैंक आप ऊपर दिए कट-ऑफ़ से मिला सकते हैं।",
   noList: "पन्ना प्रकाशित लिस्ट नहीं पढ़ पाया।",
   unread: "पन्ना यह कारण नहीं पढ़ पाया। ये कार्यालय के अपने शब्द हैं।",
   noCutoffs: "पन्ना इस प्रोग्राम के कट-ऑफ़ नहीं पढ़ पाया।",
@@ -638,7 +684,10 @@ export const WHY = {
 
 const WITHIN = "आपकी रैंक इसके भीतर है।";
 const NOT_YOU = "आप इनमें से नहीं हैं।";
-const BEHIND = (best, place) => `आपकी रैंक ${figure(place)} है, ${best.traits ? `${holders(best.traits)} ${figure(best.place)} से ` : ""}${figure(place - best.place)} पीछे।`;
+const BEHIND = (best, own) =>
+  own.of === best.of
+    ? `आपकी रैंक ${figure(own.rank)} है, ${best.traits ? `${holders(best.traits)} ${figure(best.rank)} से ` : ""}${figure(own.rank - best.rank)} पीछे।`
+    : `आपकी रैंक ${ranked(own)} है, और वह पूरी लिस्ट ${best.of} के पीछे आती है।`;
 
 /** A letter of allotment for paper. */
 export const LETTER = {
@@ -663,8 +712,15 @@ export const LETTER = {
   },
   byHand: "हाथ से भरें",
   noReceipt: "अभी कोई नहीं",
+  use: "यह पत्र किस काम का है",
+  uses: (isFinal) => [
+    isFinal ? "यह बताता है कि अंत में आपकी सीट कौन-सी है। संस्थान में पहुँचते समय इसे साथ ले जाएँ।" : "यह बताता है कि इस राउंड में आपके पास कौन-सी सीट है। अगले राउंड में आप ऊपर जाएँ, तो पत्र फिर से छापें।",
+    "अपना नाम इस पर हाथ से लिखें, क्योंकि कार्यालय नाम नहीं जानता।",
+    "संस्थान के पास कार्यालय की लिस्ट होती है। वह उसमें आपका उम्मीदवार नंबर देखता है और सीट को इस पत्र से मिलाता है। दोनों में फ़र्क़ हो तो लिस्ट मान्य है।",
+    "आख़िरी पंक्तियाँ कार्यालय का उत्तर हैं। अदालत कार्यालय से यही पंक्तियाँ लेकर मिला सकती है।",
+  ],
   own: "कार्यालय के अपने शब्द",
-  foot: (origin, time) => `${origin} से ${time} छापा गया। मान्य कार्यालय के अभिलेख हैं। यह काग़ज़ उन्हें दोहराता है और अपने आप में कोई प्रमाण नहीं है।`,
+  foot: (origin, time) => `${origin} से ${time} छापा गया।`,
   time: clock,
 };
 

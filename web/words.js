@@ -32,7 +32,10 @@ export const LABELS = {
 
   anybodyHead: "Lists and checks - Seat allocation office",
   anybodyTitle: "Lists and checks",
-  anybodyIntro: "Anyone may read who has which seat, see the cutoffs, and check a refusal. You need no token.",
+  anybodyIntro: "Anyone may read who has which seat, and see the cutoffs. For that you need no token.",
+  mineTitle: "Were you refused?",
+  mineIntro: "Sign in with your number and token. The page then says for each programme of your list where its seats ended, how far your place is behind that, and whether the refusal is right.",
+  mineCheck: "Check my refusal",
   haveLetter: "Do you have a letter from the board?",
   seeSeat: "See your seat",
   stateTitle: "How far the season is",
@@ -59,8 +62,9 @@ export const LABELS = {
   findNumber: "Find a candidate",
   findHint: "a candidate number, if you want one row",
   showRound: "Show the text",
-  checkTitle: "Check a refusal with the sheet of a step",
-  checkIntro: "This check is for the clerk and for courts, because a sheet names all candidates and what they hold. A refusal is right if and only if the answer to both questions is no:",
+  checkTitle: "For clerks and courts",
+  checkOpen: "Check a refusal with the sheet of a step",
+  checkIntro: "A candidate needs no sheet: “Check my refusal” above is enough. This check is for the clerk and for courts, because a sheet names all candidates and what they hold. A refusal is right if and only if the answer to both questions is no:",
   question1: "Do the protected seats need the candidate?",
   question2: "If not, is a free seat left for the candidate?",
   checkSheet: "To answer them, this page needs the sheet of the step: its seats, its protected seats, and all its candidates in merit order. The page works on this device and sends the sheet to nobody.",
@@ -120,6 +124,7 @@ export const FAULTS = {
   seats: "The new number is a whole number from 1 to 4,000.",
   round: "No round is published yet.",
   place: "A place is a number, with an R after it if it is relaxed.",
+  noRank: "This list has no such place. Look which list your place is from.",
 };
 
 export const NO = "No, go back";
@@ -147,6 +152,7 @@ export const NUMBERS = {
 export const VISIT = {
   signedIn: (cand) => `You are signed in as candidate ${cand}.`,
   left: { idle: "The page signed you out, because nobody touched it for 15 minutes.", asked: "You are signed out. The page has forgotten your token." },
+  lost: "You were signed in, but your browser did not pass that on to this page. Sign in again with your token. What you have sent to the office is not lost.",
 };
 
 /** Whom to ask, where the board has published it. */
@@ -264,23 +270,43 @@ export const ARRIVING = (bytes) => `${figure(Math.ceil(bytes / 100_000) / 10)} M
 export const NOTICE = "Notice of the office";
 export const OWN_WORDS = "The office's own words";
 
+/** A moment with its year, by the clock of India. */
+export const MOMENT = (ms) => `${new Date(ms).toLocaleString("en-IN", WHEN)}, Indian time`;
+
+/** What the office's own words say. */
+export const OWN = {
+  head: ({ cand, application, time }) => `What the office said on ${time}, of candidate ${cand}${application ? ` with the application number ${application}` : ""}. Its own lines are always in English, and they are what a court compares.`,
+  seat: ({ round, seat, kind, answer, isOpen }) =>
+    seat ? `Your seat is in ${seat}, by round ${round}: ${kind}.${answer ? ` Your answer is ${answer}.` : isOpen ? " You have not answered yet." : ""}` : round ? `You have no seat by round ${round}.` : "You have no seat, because no round is published yet.",
+  register: (category, traits, places) => `Your entry in the register: the category is ${category}, and the traits are: ${traits}. ${places.length ? `Your places: ${places.join("; ")}.` : "You have no place in any merit list."}`,
+  choices: (programmes) => `Your choice list: ${programmes.map((it, at) => `${at + 1}. ${it}`).join("; ")}.`,
+  noChoices: "Your choice list is empty.",
+  noted: ({ window, turn, answer }) => `In window ${window} the office took ${answer} as your ${nth(turn)} answer.`,
+  why: (programme, round) => `The office's reason for ${programme} in round ${round}, word for word. What it says is above.`,
+  refused: (programme, round) => `The office's reason for ${programme} in round ${round}, and its cutoffs, word for word. What they say is above.`,
+};
+
 // ---- cutoffs
 
-const placed = (place) => (place === Infinity ? "any place" : figure(place));
+/** A rank with its list of ranks, where a merit list has several and it is not `said`: `3,004 in Rank SC`. */
+const ranked = ({ rank, of }, said = null) => `${rank === Infinity ? "any place" : figure(rank)}${of && of !== said ? ` in ${of}` : ""}`;
+
+/** The ranks of some lines, each with its list of ranks where that is another one than before. */
+const ranksOf = (lines) => lines.map((it, at) => ranked(it, lines[at - 1]?.of));
 
 /** Where a kind of seat ends, for everybody and for those who hold traits: `8,017 · women 9,846`. */
-const ends = (lines) => lines.map(({ traits, place }) => `${traits ? `${holders(traits)} ` : ""}${placed(place)}`).join(" · ");
+const ends = (lines) => ranksOf(lines).map((it, at) => (lines[at].traits ? `${holders(lines[at].traits)} ${it}` : it)).join(" · ");
 
 /** The same as a sentence about a kind of seat: `Open seats end at place 8,017 (women 9,846).` */
 function endOf(step, lines) {
-  const [first, ...others] = lines;
-  const more = ends(others).replaceAll(" · ", ", ");
-  if (first.traits) return `${kindOfSeat(step)} end at place ${lines.map((it) => `${placed(it.place)} for ${holders(it.traits)}`).join(", ")}, and admit nobody else.`;
-  return `${kindOfSeat(step)} ${first.place === Infinity ? "admit any place" : `end at place ${figure(first.place)}`}${more ? ` (${more})` : ""}.`;
+  const [first, ...others] = ranksOf(lines);
+  if (lines[0].traits) return `${kindOfSeat(step)} end at place ${[first, ...others].map((it, at) => `${it} for ${holders(lines[at].traits)}`).join(", ")}, and admit nobody else.`;
+  const more = others.map((it, at) => `${holders(lines[at + 1].traits)} ${it}`).join(", ");
+  return `${kindOfSeat(step)} ${lines[0].rank === Infinity ? "admit any place" : `end at place ${first}`}${more ? ` (${more})` : ""}.`;
 }
 
-/** The board's own rank that a place stands for. */
-export const RANK = (list, rank) => `${list}: ${figure(rank)}`;
+/** How the lists of ranks follow each other in a merit list. */
+export const IN_ORDER = (lists) => `The office puts these lists one behind another: ${lists.join(", ")}. So each place in one of them is better than all places in those behind it.`;
 
 export const CUTOFFS = {
   columns: ["Programme", "Institute", "Ends at place"],
@@ -308,7 +334,8 @@ export const LIKE = {
   noPlace: "Fill in at least one place.",
   noPaper: "The cutoffs of all programmes, or the programmes themselves, are not published here. So the page cannot compare them.",
   first: "The kind of seat is the first, in the office's order, within whose cutoff you are. It is the one whose seat it would be.",
-  ahead: (place, best) => (best === Infinity ? figure(place) : best === place ? `${figure(place)}, the last that is within` : `${figure(place)}, within by ${figure(best - place)}`),
+  of: (list) => `Which list is your place in ${list} from?`,
+  ahead: (own, best) => `${ranked(own)}${best.rank === Infinity || best.of !== own.of ? "" : best.rank === own.rank ? ", the last that is within" : `, within by ${figure(best.rank - own.rank)}`}`,
 };
 
 // ---- lists and rounds
@@ -332,6 +359,7 @@ export const SEATS = {
   byMerit: "on a seat that is protected for nobody",
   candidate: "Candidate",
   rank: (rank) => `no. ${figure(rank)} on this list`,
+  place: (it, isBetter) => `place ${it.rank === null ? `behind all in ${it.behind}` : ranked(it)}${isBetter === null ? "" : isBetter ? ": better than yours" : ": behind yours"}`,
   you: "this is you",
   lettersSay: "A box says which protected seat a candidate fills. It does not say that the candidate was admitted because of it.",
   empty: "empty",
@@ -436,15 +464,17 @@ export const ENTRY = {
   open: "Show what the register has of you",
   seen: "What others can see of you",
   public: [
-    "Where the board publishes rounds and lists, everybody can read your candidate number with your seat and its kind, and which protected seat you fill. The office's own lists name its trait by a letter, also that of disability.",
+    "Where the board publishes rounds and lists, everybody can read your candidate number with your seat and its kind, and which protected seat you fill. The office's own lists name its trait by a letter, also that of disability. If the board publishes places too, your place is among them while you have a seat.",
     "Your entry, your choice list, your answers and your receipts are for you and for the clerk. A court that checks the season gets them too.",
     "The office knows no names, marks or addresses.",
   ],
   fields: { category: "Category", traits: "Your traits", place: (list) => `Place in ${list}` },
   list: (number) => `merit list ${number}`,
   // the category GEN has no seats of its own
-  place: (place, isCommon, rank, category) =>
-    `${figure(place)}${rank ? ` (${rank})` : ""}, ${isCommon ? `a common place: it counts for open seats${category === "GEN" ? "" : " and for your category's"}` : "a relaxed place: it counts for the seats of your category alone"}`,
+  place: (own, isCommon, category) =>
+    `${ranked(own)}, ${isCommon ? `a common place: it counts for open seats${category === "GEN" ? "" : " and for your category's"}` : "a relaxed place: it counts for the seats of your category alone"}`,
+  short: (own, isCommon, list) => `${ranked(own)}${own.of ? "" : ` in ${list}`}${isCommon ? "" : ", relaxed"}`,
+  joined: (place, own) => `The office's own words have ${place} for your place ${ranked(own)}: there the lists are one behind another.`,
   nowhere: "You have no place in any merit list.",
 };
 
@@ -474,7 +504,7 @@ export const STATE = {
     offered: ({ isLast }) => [isLast ? "This is the last window: each answer but a withdrawal makes this seat your final admission." : "This is your first offer."],
     kept: ({ choice, isLast, window, by }) => [
       isLast ? "It becomes your final admission when this window closes." : `Your answer is ${choice}, and it holds until you change it.`,
-      `You need not do anything. ${isLast ? "You can only still withdraw" : "You can change your answer"} until ${by ?? `window ${window} closes`}.`,
+      `You need not do anything. ${isLast ? "You can still withdraw" : "You can change your answer"} until ${by ?? `window ${window} closes`}.`,
     ],
     admitted: () => ["This admission is final.", "Next, print your letter, and follow the notices of the board and of the institute: they say when and where you report."],
     without: ({ hasSpecial }) => [hasSpecial ? SEAT.noSpecial : SEAT.special],
@@ -588,15 +618,27 @@ export const ANSWER = {
   cameEnd: (seat) => `The final admissions came while you answered. ${seat ? `You are admitted to ${seat}.` : "You have no seat."}`,
   save: "Save the receipt",
   print: "Print",
-  file: (receipt, seat, origin, time) => `${receipt}\n\n${seat}\noffice ${origin}\nclock of this device ${time}\n`,
+  when: ({ seat, at, body: { window, turn } }) => `It came on ${at}${seat ? `, for your seat in ${seat}` : ""}. It is your ${nth(turn)} answer in window ${window}.`,
+  facts: ({ cand, application, seat, at, body }) => [
+    "Receipt of an answer",
+    `Candidate: ${cand}`,
+    ...(application ? [`Application number: ${application}`] : []),
+    `Answer: ${CHOICES[body.choice]?.name ?? body.choice}`,
+    ...(seat ? [`Seat: ${seat}`] : []),
+    `Window: ${body.window}, the ${nth(body.turn)} answer in it`,
+    `Came on: ${at}`,
+  ],
+  file: (facts, own, origin) => `${facts.join("\n")}\n\nThe office's own words:\n${own}\noffice ${origin}\n`,
   fileName: ({ cand, window, turn }) => `receipt-${cand}-window-${window}-turn-${turn}.txt`,
 };
 
 export const RECEIPTS = {
-  columns: ["Window", "Turn", "Answer", "Receipt"],
+  columns: ["Window", "Number in it", "Answer", "Receipt"],
   caption: "Your answers, in the order in which the office took them",
   window: (window) => `Window ${window}`,
   none: "The office has no answer from you.",
+  noTimes: "The office keeps the order of your answers, and no times. A receipt that you save when you answer has the time too.",
+  file: (head, says, lines) => `${head}\n\n${says.join("\n")}\n\nThe office's own words:\n${lines.join("\n")}\n`,
   save: "Save all receipts",
   fileName: (cand) => `receipts-${cand}.txt`,
 };
@@ -606,7 +648,7 @@ export const WHY = {
   list: "Your choice list:",
   emptyList: "Your choice list is empty.",
   first: (seat) => `You have ${seat}, the first programme on your list. So there is nothing to explain.`,
-  heading: (place, programme) => `${place}. ${programme}`,
+  heading: (place, programme, round) => `${place}. ${programme} (round ${round})`,
   asking: (programme) => `Asking about ${programme} …`,
   admitted: (round, step) => `Round ${round} gives you a seat here, under ${stepName(step)}.`,
   gone: { withdrawn: "You withdrew since then, so the seat is gone.", noshow: "You did not answer it in time, so the seat is gone." },
@@ -624,9 +666,11 @@ export const WHY = {
     `${seats === 1 ? "the one seat is" : `all ${figure(seats)} seats are`} taken. Someone with a worse place than yours is admitted. With you in the place of any such candidate, fewer protected seats would be filled.`,
   nowhere: "No kind of seat here was open to you.",
   // what a step admits, and how far that is from the place of the candidate
-  compare: ({ step, lines, best, place, isWithin }) =>
-    lines.length === 0 ? `${kindOfSeat(step)} admit nobody more.` : `${endOf(step, lines)} ${isWithin ? WITHIN : best === null ? NOT_YOU : BEHIND(best, place)}`,
-  counts: (place, list, rank) => `Here your place in ${list} counts: ${figure(place)}${rank ? ` (${rank})` : ""}.`,
+  compare: ({ step, lines, best, own, isWithin }) =>
+    lines.length === 0 ? `${kindOfSeat(step)} admit nobody more.` : `${endOf(step, lines)} ${isWithin ? WITHIN : best === null ? NOT_YOU : BEHIND(best, own)}`,
+  further: "The other kinds of seats do not admit you either:",
+  relaxed: "Open and de-reserved seats are not for you here, because your place is relaxed: it counts for the seats of your category alone.",
+  counts: (own, list) => `Here your place in ${own.of ?? list} counts: ${figure(own.rank)}.`,
   within: "By its cutoffs this programme would admit you. Something is wrong: show the cutoffs and the reason to the office.",
   whichPlace: "This page does not know which of your places counts at this programme. Compare yours with its published cutoffs:",
   line: ({ step, lines }) => endOf(step, lines),
@@ -636,6 +680,8 @@ export const WHY = {
   seats: (programme) => `Who has the seats of ${programme}`,
   next: (number) => `Explain the next ${number}`,
   below: (programme) => `You have ${programme}. The programmes below it on your list do not matter while you have it.`,
+  yours: (own) => `Your place there is ${ranked(own)}. At the kinds of seats for which you were considered, each box says whether its place is better.`,
+  noPlaces: "The board has not published the places of these candidates, so each box has the order on the list. The cutoffs above are what you can compare with your own place.",
   noList: "This page cannot read the published list.",
   unread: "This page cannot read the reason. These are the office's own words.",
   noCutoffs: "This page cannot read the cutoffs of this programme.",
@@ -646,7 +692,10 @@ export const WHY = {
 
 const WITHIN = "Yours is within.";
 const NOT_YOU = "You are none of those.";
-const BEHIND = (best, place) => `Yours is ${figure(place)}, ${figure(place - best.place)} behind${best.traits ? ` the ${figure(best.place)} for ${holders(best.traits)}` : ""}.`;
+const BEHIND = (best, own) =>
+  own.of === best.of
+    ? `Yours is ${figure(own.rank)}, ${figure(own.rank - best.rank)} behind${best.traits ? ` the ${figure(best.rank)} for ${holders(best.traits)}` : ""}.`
+    : `Yours is ${ranked(own)}, and that whole list comes behind ${best.of}.`;
 
 /** A letter of allotment for paper. */
 export const LETTER = {
@@ -671,8 +720,15 @@ export const LETTER = {
   },
   byHand: "to be filled in by hand",
   noReceipt: "none yet",
+  use: "What this letter is for",
+  uses: (isFinal) => [
+    isFinal ? "It says which seat is yours in the end. Take it along when you report at the institute." : "It says which seat you have in this round. If a later round moves you up, print the letter again.",
+    "Write your name on it by hand, because the office knows no names.",
+    "The institute has the list of the office. It finds your candidate number there, and compares the seat with this letter. If they differ, the list counts.",
+    "The last lines are what the office replied. A court can ask the office for the same lines, and compare them.",
+  ],
   own: "The office's own words",
-  foot: (origin, time) => `Printed from ${origin} on ${time}. The records of the office count. This sheet repeats them and proves nothing by itself.`,
+  foot: (origin, time) => `Printed from ${origin} on ${time}.`,
   time: (ms) => new Date(ms).toLocaleString("en-IN", WHEN),
 };
 

@@ -1,14 +1,15 @@
 /** The page of a candidate: what to do and by when, the answers that are open, the seat, receipts, why not another programme, and the entry in the register. */
-import { ask, askCutoffs, askList, paper, serverTime } from "../ask.js";
-import { bySteps, compared, readCutoffs, readPlace } from "../cutoffs.js";
+import { ask, askCutoffs, askList, askPlaces, paper, serverTime } from "../ask.js";
+import { byNearness, bySteps, compared, readCutoffs, readPlace } from "../cutoffs.js";
 import { $, askBeforeLeaving, button, canBeShown, clear, closeQuestions, confirmed, countSigns, details, dropLinks, el, emptyToken, lazyDetails, onPress, onSend, ownWords, paragraphs, ready, saveLink, say, sayFault, show, table, ungrouped, valuesOf, verbatim } from "../dom.js";
 import { printLetter } from "../letter.js";
 import { bare, candidateOf, isLikeApplication, numbersPaper } from "../numbers.js";
+import { headOf, ownReplies, ownTexts, reading } from "../own.js";
 import { listPicture } from "../picture.js";
 import { CHOICES as ALL_CHOICES, grouped, heldBefore, isCandidate, isToken, lineOf, MOST_TURNS, moved, openNow, readList, readSpecial, readWhy, receiptsOf, settledByList, situation } from "../rule.js";
-import { announcedEnd, endPaper, instituteName, instituteOf, listName, lookAgain, papersCome, programmeOf, rankOf, seatName, showContact, showEnd, showNotice } from "../season.js";
+import { announcedEnd, endPaper, instituteName, instituteOf, listName, lookAgain, papersCome, programmeOf, publishedPlace, rankListsOf, seatName, showContact, showEnd, shownPlace, showNotice } from "../season.js";
 import { carry, endVisit, isVisit, leaveForNext, leaveInTime, SignIn, takeFromLast } from "../session.js";
-import { ANSWER, ASKING, CATEGORIES, CHOICES, ENTRY, HELP, HOLDS, HOLDS_NOTHING, kindOfSeat, LABELS, LATER, LEFT, LIST_FAULTS, moment, NOT_DISABILITY, NUMBERS, OLD, OWN_WORDS, phase, RECEIPTS, SEAT, SETTLED, STANDINGS, STATE, trouble, VISIT, WAITING, WHY } from "../words.js";
+import { ANSWER, ASKING, CATEGORIES, CHOICES, ENTRY, HELP, HOLDS, HOLDS_NOTHING, IN_ORDER, kindOfSeat, LABELS, LATER, LEFT, LIST_FAULTS, moment, MOMENT, NOT_DISABILITY, NUMBERS, OLD, OWN, phase, RECEIPTS, SEAT, SEATS, SETTLED, STANDINGS, STATE, trouble, VISIT, WAITING, WHY } from "../words.js";
 
 const AT_ONCE = 20;
 const [UNKNOWN, DENIED, LATE] = [1, 3, 6];
@@ -85,7 +86,17 @@ async function comesAs(who, then = () => {}) {
     comeIn();
     then();
   };
-  if (await load(who, isHere)) papersCome().then(() => who === me && showNames());
+  if (!(await load(who, isHere))) return;
+  papersCome().then(() => who === me && showNames());
+  if (location.hash === "#why") await checksRefusal(who);
+}
+
+/** Shows why not another programme at once to somebody who came for that. */
+async function checksRefusal(who) {
+  if (!$("why-form").hidden) await explainAll();
+  if (who !== me) return;
+  $("why-title").focus();
+  $("why-part").scrollIntoView();
 }
 
 /** Opens what is a candidate's alone, as soon as there is a seat to show. */
@@ -118,7 +129,7 @@ function forget() {
 
 function leave(cause) {
   const was = me !== null;
-  if (cause === "left" && isIn()) leaveForNext(me);
+  if (cause === "left" && (isIn() || carries)) leaveForNext(me);
   if (cause !== "left") endVisit();
   forget();
   $("number").value = "";
@@ -140,7 +151,9 @@ async function comesBack() {
     return comesAs(found);
   }
   $("door").hidden = false;
-  say($("said"), "plain");
+  // nobody is signed out without a word
+  say($("said"), "plain", isVisit() && VISIT.lost);
+  endVisit();
 }
 
 /** Says that the office refused or did not reply. A refused number or token ends the sign-in, and a missing reply does not. What was typed stays, so that a slip can be mended. */
@@ -188,6 +201,7 @@ async function load(who, seatIsHere = () => {}) {
       if (seat.round === state.published) break;
     }
     if (who.moveOf !== who.state.published) who.move = null;
+    if (who.whysOf !== who.state.published) dropWhys(who);
     const more = Promise.all([own(who, "answers"), who.entry ?? own(who, "register"), who.choices ?? own(who, "choices")]);
     more.catch(() => null);
     who.end = await announcedEnd(who.state, closing);
@@ -316,12 +330,12 @@ function showSeat(who) {
     rows.push([SEAT.fields.kind, kindOfSeat(seat.step)]);
     if (at) rows.push([SEAT.fields.choice, SEAT.choice(at)]);
     if (who.move) rows.push([SEAT.fields.before, SEAT.before(who.move.from, seatName(who.move.held))]);
-    if (place) rows.push([SEAT.fields.place(listName(list)), ENTRY.place(place.place, place.isCommon, rankOf(list, place.place), entry.category)]);
+    if (place) rows.push([SEAT.fields.place(listName(list)), ENTRY.place(shownPlace(list, place.place), place.isCommon, entry.category)]);
     if (seat.round) rows.push([SEAT.fields.round, seat.round]);
   } else rows.push([field, SEAT.none]);
   rows.push([SEAT.fields.standing, standing(who)]);
   $("letter-button").hidden = !who.seat.programme;
-  show($("seat"), facts(rows), seat.step === "D" && el("p", {}, el("strong", {}, NOT_DISABILITY)), phase(state).join(" "), details(OWN_WORDS, verbatim(`${lineOf(who.seat)}\n${lineOf(state)}`)));
+  show($("seat"), facts(rows), seat.step === "D" && el("p", {}, el("strong", {}, NOT_DISABILITY)), phase(state).join(" "), ownReplies(who, who.seat, state));
 }
 
 const facts = (rows) => el("dl", { class: "facts" }, rows.map(([name, fact]) => el("div", {}, el("dt", {}, name), el("dd", {}, fact))));
@@ -341,13 +355,20 @@ function showEntry(who) {
   const { entry, state } = who;
   const isEarly = state.published === 0;
   const places = entry.places.map((it, at) => [at + 1, readPlace(it)]).filter(([, it]) => it);
-  const rows = [[ENTRY.fields.category, CATEGORIES[entry.category] ?? entry.category], [ENTRY.fields.traits, heldWords(entry.traits)], ...places.map(([list, it]) => [ENTRY.fields.place(listName(list)), ENTRY.place(it.place, it.isCommon, rankOf(list, it.place), entry.category)])];
-  const parts = [facts(rows), places.length === 0 && ENTRY.nowhere, details(OWN_WORDS, verbatim(lineOf(entry))), details(ENTRY.seen, ...paragraphs(ENTRY.public))].filter(Boolean).map((it) => (typeof it === "string" ? el("p", {}, it) : it));
+  const rows = [[ENTRY.fields.category, CATEGORIES[entry.category] ?? entry.category], [ENTRY.fields.traits, heldWords(entry.traits)], ...places.map(([list, it]) => [ENTRY.fields.place(listName(list)), ENTRY.place(shownPlace(list, it.place), it.isCommon, entry.category)])];
+  const joined = places.map(([list, it]) => [entry.places[list - 1], shownPlace(list, it.place)]).filter(([, it]) => it.isJoined);
+  const parts = [facts(rows), places.length === 0 && ENTRY.nowhere, ...joined.map(([text, it]) => el("p", { class: "hint" }, ENTRY.joined(text, it))), ownReplies(who, entry), details(ENTRY.seen, ...paragraphs(ENTRY.public))].filter(Boolean).map((it) => (typeof it === "string" ? el("p", {}, it) : it));
   if (isEarly) show($("entry"), el("p", { class: "say" }, ENTRY.check), ...parts);
   else if (!$("entry").querySelector("details[open]")) show($("entry"), ENTRY.later, details(ENTRY.open, ...parts));
 }
 
 const heldWords = (traits) => [...traits].map((it) => HOLDS[it] ?? it).join(", ") || HOLDS_NOTHING;
+
+/** Asks the office again. What is new is said by the heading, so somebody who has scrolled down is led there. */
+async function looksAgain() {
+  const before = $("title").textContent;
+  if ((await load(me)) && $("title").textContent !== before) $("title").focus();
+}
 
 /** Looks by itself whether what is shown still holds, and says it if it does not. */
 async function lookWhile() {
@@ -432,6 +453,7 @@ async function send(who, body) {
   const sameAgain = el("p", {}, button(ANSWER.again, () => send(who, body), { class: "main" }));
   if (got.body?.reply === "noted") {
     who.receipt = got.body;
+    who.receiptAt = serverTime();
     say(out, "good", ...receiptParts(who, got.body));
     showTitle({ ...who, seat: seatAfter(who.seat, body.choice) });
   } else if (got.passing) say(out, "bad", trouble(got), ANSWER.unknown, sameAgain);
@@ -453,9 +475,13 @@ function came(who) {
 
 function receiptParts(who, body) {
   const receipt = lineOf(body);
-  const text = ANSWER.file(receipt, lineOf(who.seat), location.origin, new Date().toISOString());
+  const seat = who.seat.programme && seatName(who.seat.programme);
+  const at = MOMENT(who.receiptAt);
+  const facts = ANSWER.facts({ cand: who.cand, application: who.application, seat, at, body });
+  const text = ANSWER.file(facts, `${receipt}\n${lineOf(who.seat)}`, location.origin);
   return [
     el("strong", {}, ANSWER.taken(body.choice)),
+    ANSWER.when({ seat, at, body }),
     ANSWER.keep,
     verbatim(receipt),
     el("p", { class: "row" }, saveLink(ANSWER.save, ANSWER.fileName(body), text), button(ANSWER.print, () => print())),
@@ -480,8 +506,9 @@ function showReceipts(who) {
   show(
     out,
     table(RECEIPTS.caption, RECEIPTS.columns, all.map(cells)),
-    el("p", { class: "row" }, saveLink(RECEIPTS.save, RECEIPTS.fileName(who.cand), `${lines.join("\n")}\n`), button(ANSWER.print, () => print())),
-    details(OWN_WORDS, verbatim(lineOf(who.answers))),
+    el("p", { class: "hint" }, RECEIPTS.noTimes),
+    el("p", { class: "row" }, saveLink(RECEIPTS.save, RECEIPTS.fileName(who.cand), RECEIPTS.file(headOf(who), reading(who.answers), lines)), button(ANSWER.print, () => print())),
+    ownReplies(who, who.answers),
   );
 }
 
@@ -500,10 +527,18 @@ function showChoices(who) {
   show($("choices"), !isEarly && WHY.list, list);
 }
 
+/** Takes away the reasons of an earlier round, which say nothing of this one. */
+function dropWhys(who) {
+  who.whysOf = null;
+  clear($("whys"), $("complaint"));
+  say($("why-said"), "plain");
+}
+
 async function explainAll() {
   const who = me;
-  clear($("whys"), $("complaint"));
+  dropWhys(who);
   who.papers = new Map();
+  who.whysOf = who.state.published;
   await papersCome();
   if (who === me) await explainSome(who, 0);
 }
@@ -511,14 +546,15 @@ async function explainAll() {
 /** Explains the next few programmes of the choice list. It ends at the seat: all below it are worse. */
 async function explainSome(who, from) {
   const codes = who.choices.programmes;
+  const round = who.whysOf;
   const until = Math.min(codes.length, from + AT_ONCE);
   const held = codes.indexOf(who.seat.programme);
   for (let at = from; at < until; at++) {
     const name = seatName(codes[at]);
     say($("why-said"), "plain", WHY.asking(name));
-    const box = el("section", { class: "box" }, el("h3", {}, WHY.heading(at + 1, name)));
+    const box = el("section", { class: "box" }, el("h3", {}, WHY.heading(at + 1, name, round)));
     const parts = await asking(who, () => explained(who, codes[at]));
-    if (who !== me || parts === null) return;
+    if (who !== me || who.whysOf !== round || parts === null) return;
     box.append(...parts.filter(Boolean).map((it) => (typeof it === "string" ? el("p", {}, it) : it)));
     $("whys").append(box);
     if (at === held) {
@@ -562,69 +598,106 @@ async function explained(who, code) {
   if (got.body?.reply !== "why") throw new NoAnswer(got);
   const { text } = got.body;
   who.papers.set(code, { why: text });
+  const own = () => ownTexts(who, OWN.why(seatName(code), who.state.published), text);
   let why;
   try {
     why = readWhy(text);
   } catch {
-    return [WHY.unread, details(OWN_WORDS, verbatim(text))];
+    return [WHY.unread, own()];
   }
-  if (why.kind === "admitted") return [WHY.admitted(who.state.published, why.detail), WHY.gone[who.seat.standing], details(OWN_WORDS, verbatim(text))];
-  if (why.kind === "better") return [WHY.better(seatName(why.detail)), details(OWN_WORDS, verbatim(text))];
-  if (why.kind === "notsought") return [...WHY.notsought(who.state.published), details(OWN_WORDS, verbatim(text))];
+  if (why.kind === "admitted") return [WHY.admitted(who.state.published, why.detail), WHY.gone[who.seat.standing], own()];
+  if (why.kind === "better") return [WHY.better(seatName(why.detail)), own()];
+  if (why.kind === "notsought") return [...WHY.notsought(who.state.published), own()];
   return refusedParts(who, code, why, text);
 }
 
-/** What a refusal says: that it is one, how far the candidate's place is from the cutoffs, which decide it, and then the office's reasons. */
+/** What a refusal says: that it is one, how far the candidate's place is from the cutoffs, of which the nearest decides it, and then the office's reasons in the same order. */
 async function refusedParts(who, code, why, text) {
   const got = await askCutoffs(who.state.published, code, how(who));
   who.papers.get(code).cutoffs = got.body?.text;
   const line = (it) => (it.seats === 0 ? WHY.noSeats : it.worse ? WHY.worseYes(it.seats) : WHY.worseNo(it.seats));
   // kinds of seats that the programme does not have are in the office's own words alone, unless there is no other
   const withSeats = why.steps.filter((it) => it.seats > 0);
-  const reasons = (withSeats.length ? withSeats : why.steps).map((it) => el("li", {}, el("strong", {}, `${kindOfSeat(it.name, it.seats)}: `), line(it)));
+  const far = farFrom(who, code, got);
+  const at = (it) => far?.steps?.findIndex((one) => one.step === it.name) ?? 0;
+  const reasons = [...(withSeats.length ? withSeats : why.steps)].sort((one, other) => at(one) - at(other)).map((it) => el("li", {}, el("strong", {}, `${kindOfSeat(it.name, it.seats)}: `), line(it)));
   const hasD = withSeats.some((it) => it.name === "D");
   return [
     el("p", {}, el("strong", {}, WHY.refused)),
-    ...comparison(who, code, got, withSeats.map((it) => it.name)),
+    ...comparison(got, far, withSeats.map((it) => it.name)),
     ...(reasons.length ? [WHY.considered, el("ul", {}, reasons)] : [WHY.nowhere]),
     hasD && el("p", {}, el("strong", {}, NOT_DISABILITY)),
     lazyDetails(WHY.seats(seatName(code)), () => seatsOf(who, code, why)),
-    details(OWN_WORDS, verbatim(text), got.body?.text ? verbatim(got.body.text) : null),
+    ownTexts(who, OWN.refused(seatName(code), who.state.published), text, got.body?.text),
   ];
 }
 
-/** The comparison of the candidate's place with the cutoffs of a programme that refused the candidate, at its steps that have seats or cutoffs. The
- * programme's own merit list is in the published programmes. Without them the page compares if the candidate has a place in one list alone. */
-function comparison(who, code, got, withSeats) {
-  if (got.body?.reply !== "cutoffs") return [trouble(got)];
+/** How far the candidate's place is from the cutoffs of a programme that refused the candidate: the merit list and the place that count there, or null where the page does not know
+ * them, and the steps, the nearest first. Returns null where there are no cutoffs that can be read. The programme's own merit list is in the published programmes. Without them the
+ * page compares if the candidate has a place in one list alone. */
+function farFrom(who, code, got) {
   const places = who.entry.places.map(readPlace);
   const held = places.filter(Boolean);
   const list = programmeOf(code)?.list ?? (held.length === 1 ? places.findIndex(Boolean) + 1 : null);
   const place = list && places[list - 1];
   try {
-    const { lines } = readCutoffs(got.body.text);
-    if (!place) return [WHY.whichPlace, el("ul", {}, bySteps(lines).map((it) => el("li", {}, WHY.line(it))))];
-    const steps = compared(lines, who.entry, place);
-    const shown = steps.filter((it) => it.lines.length || withSeats.includes(it.step));
-    const rows = shown.map((it) => el("li", {}, WHY.compare(it)));
-    return [WHY.counts(place.place, listName(list), rankOf(list, place.place)), el("ul", { class: "far" }, rows), steps.some((it) => it.isWithin) ? el("p", { class: "say bad" }, WHY.within) : el("p", {}, WHY.cutoffsAre)];
+    const lines = readCutoffs(got.body.text).lines.map((it) => ({ ...it, ...shownPlace(list, it.place) }));
+    if (!place) return { list: null, steps: bySteps(lines) };
+    const own = shownPlace(list, place.place);
+    return { list, place, own, steps: byNearness(compared(lines, who.entry, place)).map((it) => ({ ...it, own })) };
   } catch {
-    return [WHY.noCutoffs];
+    return null;
   }
 }
 
-/** The seats of a programme, and what its list alone settles of a refusal. */
+/** The sentences on how far a place is from the cutoffs, at the steps that have seats or cutoffs: first the one that decides. */
+function comparison(got, far, withSeats) {
+  if (got.body?.reply !== "cutoffs") return [trouble(got)];
+  if (!far) return [WHY.noCutoffs];
+  if (!far.list) return [WHY.whichPlace, el("ul", {}, far.steps.map((it) => el("li", {}, WHY.line(it))))];
+  const [first, ...others] = far.steps.filter((it) => it.lines.length || withSeats.includes(it.step)).map((it) => WHY.compare(it));
+  const lists = rankListsOf(far.list).map((it) => it.name);
+  const isWithin = far.steps.some((it) => it.isWithin);
+  return [
+    WHY.counts(far.own, listName(far.list)),
+    first && el("p", { class: "far" }, el("strong", {}, first)),
+    others.length > 0 && !isWithin && WHY.further,
+    others.length > 0 && el("ul", { class: "far" }, others.map((it) => el("li", {}, it))),
+    !far.place.isCommon && WHY.relaxed,
+    isWithin ? el("p", { class: "say bad" }, WHY.within) : el("p", {}, WHY.cutoffsAre),
+    lists.length > 0 && el("p", { class: "hint" }, IN_ORDER(lists)),
+  ];
+}
+
+/** The seats of a programme with the places of who has them, and what its list alone settles of a refusal. */
 async function seatsOf(who, code, why) {
-  const got = await askList(who.state.published, code, how(who));
+  const [got, places] = await Promise.all([askList(who.state.published, code, how(who)), askPlaces(who.state.published, code, instituteOf(code))]);
   if (got.body?.reply !== "list") return [trouble(got), ownWords(got)];
   const programme = programmeOf(code);
+  const own = programme && readPlace(who.entry.places[programme.list - 1]);
+  // the seats of another category are for its members alone, so no place is compared there
+  const stoodFor = (step) => why.steps.some((it) => it.name === step);
+  const placeOf = (cand, step) => own && placeWords(programme.list, places?.get(cand), stoodFor(step) ? own : null);
   try {
     const list = readList(got.body.text);
     const checked = why.steps.filter((it) => it.seats > 0).map((it) => el("li", {}, found(who, list, programme, it)));
-    return [programme && checked.length > 0 && WHY.checked, programme && el("ul", {}, checked), listPicture(list, got.body.text, programme, who.cand)];
+    return [
+      programme && checked.length > 0 && WHY.checked,
+      programme && el("ul", {}, checked),
+      own && places && WHY.yours(shownPlace(programme.list, own.place)),
+      !places && el("p", { class: "hint" }, WHY.noPlaces),
+      listPicture(list, got.body.text, programme, who.cand, placeOf),
+    ];
   } catch {
     return [WHY.noList, verbatim(got.body.text)];
   }
+}
+
+/** The words for the published place of somebody with a seat, and whether it is better than one's own where that is compared; or null where it is not published. */
+function placeWords(list, text, own) {
+  const its = readPlace(text);
+  if (!its) return null;
+  return SEATS.place(publishedPlace(list, its.place), own && own.place !== its.place ? its.place < own.place : null);
 }
 
 /** What the list of a programme settles for this candidate at one step. */
@@ -643,7 +716,7 @@ async function letter() {
 
 onSend($("sign-in"), signIn);
 onSend($("why-form"), explainAll);
-onPress($("refresh"), () => load(me));
+onPress($("refresh"), looksAgain);
 onPress($("letter-button"), letter);
 onPress($("sign-out"), () => leave("asked"));
 canBeShown($("token"), $("show-token"));

@@ -1,8 +1,9 @@
 /** Cases for rule.js, cutoffs.js and numbers.js by themselves: node --test web/tests */
 import assert from "node:assert/strict";
 import { test } from "node:test";
-import { compared, firstWithin, readCutoffs, readCutoffTable, readPlace } from "../cutoffs.js";
+import { byNearness, compared, firstWithin, readCutoffs, readCutoffTable, readPlace } from "../cutoffs.js";
 import { bare, hashed } from "../numbers.js";
+import { placeOf, rankAt, rankLists } from "../ranks.js";
 import { Filling, grouped, heldBefore, isToken, lineOf, moved, openNow, readList, readSheet, readSpecial, readWhy, settledByList, situation, twoQuestions, Unreadable } from "../rule.js";
 
 const state = (now, rounds = 3) => ({ reply: "state", now, rounds, published: Math.min(now, rounds) });
@@ -66,6 +67,26 @@ test("a place and the cutoffs of a programme", () => {
   assert.throws(() => readCutoffTable("programme,step\n"), Unreadable);
 });
 
+test("the nearest cutoff explains a refusal, so it comes first", () => {
+  const { lines } = readCutoffs("cutoffs 1 CSE\nOPEN - 8017\nOBC W 20000\nSC - 40000\nend cutoffs\n");
+  const order = (category, traits, place) => byNearness(compared(lines, { category, traits }, readPlace(place))).map((it) => it.step);
+  assert.deepEqual(order("SC", "", "45000"), ["SC", "OPEN", "D"]);
+  assert.deepEqual(order("OBC", "", "45000"), ["OPEN", "OBC", "D"]);
+  assert.deepEqual(order("OBC", "W", "45000"), ["OBC", "OPEN", "D"]);
+  assert.deepEqual(order("GEN", "", "45000"), ["OPEN", "D"]);
+});
+
+test("a place of several lists of ranks behind each other is a rank in one of them", () => {
+  const lists = rankLists(new Map([["1-240000R", "Rank SC"], ["1-250000", "Rank PwD"], ["1-0", "Rank CRL"], ["2-0", "Rank of list 2"], ["3-1", "Rank OBC"], ["x", "none"]]));
+  assert.deepEqual([...lists.keys()], [1, 3]);
+  const at = (list, place) => [rankAt(lists.get(list), place)].flatMap(({ rank, of }) => [rank, of && of.name]);
+  assert.deepEqual([at(1, 240000), at(1, 240001), at(1, 250017), at(2, 7), at(3, 1), at(3, 9)], [[240000, "Rank CRL"], [1, "Rank SC"], [17, "Rank PwD"], [7, null], [1, null], [8, "Rank OBC"]]);
+  assert.deepEqual([rankAt(lists.get(1), Infinity), rankAt(undefined, 5)], [{ rank: Infinity, of: null }, { rank: 5, of: null }]);
+  const [crl, sc, pwd] = lists.get(1);
+  assert.deepEqual([crl, sc, pwd].map((it) => it.isRelaxed), [false, true, false]);
+  assert.deepEqual([[crl, 240000], [crl, 240001], [sc, 5052], [sc, 10001], [pwd, 99]].map(([of, rank]) => placeOf(lists.get(1), of, rank)), [240000, null, 245052, null, 250099]);
+});
+
 test("the texts of the office", () => {
   const list = readList("list 1 P\nstep OPEN seats 3 candidates 4 admitted 2\nhonoured 1\n1 -\n2 W\nend list\n");
   assert.deepEqual(list.steps[0].rows, [{ id: 1, slot: "-" }, { id: 2, slot: "W" }]);
@@ -98,6 +119,7 @@ test("what a list settles by itself", () => {
 
 test("an application number with its token, as tools/board_numbers.py hashes them", async () => {
   assert.equal(bare("jee-2026/0031 a"), "JEE20260031A");
+  assert.deepEqual(["0026-0310", "00A1", "0"].map(bare), ["260310", "00A1", "0"]);
   for (const typed of ["JEE20260031A", "jee-2026/0031 a"]) assert.equal(await hashed("00ff", typed, "abcdefgh12345678"), "c4417e897f8f88b6");
   assert.notEqual(await hashed("00ff", "JEE20260031A", "abcdefgh12345679"), "c4417e897f8f88b6");
 });

@@ -4,7 +4,7 @@ import { readdirSync, readFileSync } from "node:fs";
 import { test } from "node:test";
 import * as en from "../words.js";
 import * as hi from "../words.hi.js";
-import { NEVER, TERMS } from "./terms.js";
+import { FREER, NEVER, TERMS } from "./terms.js";
 
 /** Returns the sentences within the text of a function: its strings and templates, without the code between them. */
 function literals(code) {
@@ -52,6 +52,12 @@ const lost = (own, others) => [...own].flatMap(([name, text]) => TERMS.filter((i
 
 test("a term of the glossary is in the Hindi sentence if it is in the English one", () => assert.deepEqual(lost(english, hindi), []));
 
+/** Returns the terms that the sentences in Hindi have, and those of the same names in English have not, of those that both languages have alike. */
+const foreign = (own, others) =>
+  [...others].flatMap(([name, text]) => TERMS.filter((it) => it.isBoth && it.hi.test(text) && !it.en.test(own.get(name) ?? "") && !(name in FREER)).map((it) => `${name}: ${it.hi}: ${own.get(name)}`));
+
+test("a term of both languages is in the English sentence if it is in the Hindi one", () => assert.deepEqual(foreign(english, hindi), []));
+
 /** Returns each sentence in which a word is that has another one in its place. */
 const misnamed = (sentences, never) => sentences.flatMap((text) => never.filter(([word]) => word.test(text)).map(([word, instead]) => `${word} (${instead}): ${text}`));
 
@@ -77,7 +83,7 @@ test("nor in the pages that the web server shows in place of a number", () => {
 const file = (path) => readFileSync(new URL(`../../${path}`, import.meta.url), "utf-8");
 
 test("nor in the guide", () => {
-  for (const [path, language] of [["docs/CANDIDATE.md", "en"], ["docs/CANDIDATE.hi.md", "hi"]]) assert.deepEqual(misnamed(file(path).split("\n"), NEVER[language]), [], path);
+  for (const [path, language] of [["docs/HELP.md", "en"], ["docs/HELP.hi.md", "hi"], ["docs/CANDIDATE.md", "en"], ["docs/CANDIDATE.hi.md", "hi"]]) assert.deepEqual(misnamed(file(path).split("\n"), NEVER[language]), [], path);
 });
 
 test("nor where candidates make their lists on the web, and terms are the same there", () => {
@@ -86,6 +92,25 @@ test("nor where candidates make their lists on the web, and terms are the same t
   assert.deepEqual([...english.keys()], [...hindi.keys()]);
   assert.deepEqual(lost(english, hindi), []);
   for (const [sentences, never] of [[english, NEVER.en], [hindi, NEVER.hi]]) assert.deepEqual(misnamed([...sentences.values()], never), []);
+});
+
+/** Returns sentences with another word in place of a term in one of them. */
+const spoiled = (sentences, name, term) => new Map([...sentences, [name, sentences.get(name).replace(new RegExp(term.source, `${term.flags}g`), "zzz")]]);
+
+test("another word in place of a term is found, in each sentence of each language", () => {
+  const tried = { hi: 0, en: 0 };
+  for (const term of TERMS) {
+    const names = [...english.keys()].filter((it) => term.en.test(english.get(it)) && term.hi.test(hindi.get(it)));
+    assert.ok(names.length, `${term.en} is in no sentence`);
+    for (const name of names) {
+      assert.ok(lost(english, spoiled(hindi, name, term.hi)).length, `${name} without ${term.hi}`);
+      tried.hi += 1;
+      if (!term.isBoth || name in FREER) continue;
+      assert.ok(foreign(spoiled(english, name, term.en), hindi).length, `${name} without ${term.en}`);
+      tried.en += 1;
+    }
+  }
+  assert.ok(tried.hi > 300 && tried.en > 200, `${tried.hi} and ${tried.en} words were tried`);
 });
 
 test("a wrong word is found", () => {
@@ -105,10 +130,29 @@ test("figures and moments are written as in India", () => {
 });
 
 test("a cutoff is said in words, with how far a place is from it", () => {
-  const lines = [{ traits: "", place: 8017 }, { traits: "W", place: 9846 }, { traits: "D", place: Infinity }];
+  const at = (rank, of = null) => ({ rank, of });
+  const lines = [{ traits: "", ...at(8017) }, { traits: "W", ...at(9846) }, { traits: "D", ...at(Infinity) }];
   assert.equal(en.CUTOFFS.ends(lines), "8,017 · women 9,846 · persons with disabilities any place");
-  const far = { step: "OPEN", lines, best: lines[0], place: 37368, isWithin: false };
+  const far = { step: "OPEN", lines, best: lines[0], own: at(37368), isWithin: false };
   assert.equal(en.WHY.compare(far), "Open seats end at place 8,017 (women 9,846, persons with disabilities any place). Yours is 37,368, 29,351 behind.");
   assert.equal(en.WHY.compare({ ...far, best: lines[1] }), "Open seats end at place 8,017 (women 9,846, persons with disabilities any place). Yours is 37,368, 27,522 behind the 9,846 for women.");
   assert.equal(hi.WHY.compare(far), "ओपन सीटें रैंक 8,017 तक (महिलाएँ 9,846, दिव्यांग किसी भी रैंक पर)। आपकी रैंक 37,368 है, 29,351 पीछे।");
+});
+
+test("where ranks were joined, each is said in its own list, and a distance within one list alone", () => {
+  const at = (rank, of) => ({ rank, of });
+  const open = [{ traits: "", ...at(8017, "CRL") }, { traits: "W", ...at(9846, "CRL") }, { traits: "D", ...at(17, "CRL-PwD") }];
+  const own = at(5052, "SC list");
+  assert.equal(en.CUTOFFS.ends(open), "8,017 in CRL · women 9,846 · persons with disabilities 17 in CRL-PwD");
+  assert.equal(hi.CUTOFFS.ends(open), "8,017 (CRL) · महिलाएँ 9,846 · दिव्यांग 17 (CRL-PwD)");
+  assert.equal(
+    en.WHY.compare({ step: "OPEN", lines: open, best: open[0], own, isWithin: false }),
+    "Open seats end at place 8,017 in CRL (women 9,846, persons with disabilities 17 in CRL-PwD). Yours is 5,052 in SC list, and that whole list comes behind CRL.",
+  );
+  const seats = [{ traits: "", ...at(3004, "SC list") }];
+  assert.equal(en.WHY.compare({ step: "SC", lines: seats, best: seats[0], own, isWithin: false }), "SC seats end at place 3,004 in SC list. Yours is 5,052, 2,048 behind.");
+  assert.equal(hi.WHY.compare({ step: "SC", lines: seats, best: seats[0], own, isWithin: false }), "SC सीटें रैंक 3,004 (SC list) तक। आपकी रैंक 5,052 है, 2,048 पीछे।");
+  assert.equal(en.LIKE.ahead(at(12, "CRL"), seats[0]), "12 in CRL");
+  assert.equal(en.LIKE.ahead(at(3000, "SC list"), seats[0]), "3,000 in SC list, within by 4");
+  assert.equal(en.SEATS.place({ rank: null, behind: "CRL" }, false), "place behind all in CRL: behind yours");
 });
