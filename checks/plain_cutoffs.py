@@ -5,7 +5,6 @@ step, and the step chooses anew by its definition (checks/plain_office.py). Noth
 wrong rules of WRONG: each is known to be wrong, and the comparison has to find it."""
 import collections
 import functools
-import itertools
 import math
 import os
 import re

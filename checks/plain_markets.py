@@ -7,7 +7,7 @@ import re
 from typing import Iterable, Iterator, Mapping, Optional, Union
 
 from cases import called
-from plain_office import STEPS, Office, Person, Season, Seat
+from plain_office import Office, Person, Season, Seat
 from plain_trials import Draw, Seats, in_order
 
 # each step of a programme with its seats and who is admitted

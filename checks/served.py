@@ -21,7 +21,7 @@ import time
 
 import openapi
 from cases import READS_STORES, ROOMS, SECONDS
-from plain_http import asked, message, replied, reply_bytes, row_of
+from plain_http import asked, message, replied, reply_bytes
 from plain_office import Office, Season
 
 TOP = os.path.dirname(os.path.dirname(os.path.realpath(__file__)))
