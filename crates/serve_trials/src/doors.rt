@@ -45,8 +45,9 @@ fn gave_back(door: &MemDoor, written: &[&str]) -> bool {
     true
 }
 
-/// How an office was served: whether a door failed, how many entries the office has then, and whether the first of them is an answer.
-type Ended = (bool, usize, bool);
+/// How an office was served: whether a door failed, whether all was kept, how many entries the office has then, and whether the first
+/// of them is an answer.
+type Ended = (bool, bool, usize, bool);
 
 /// Serves a new office at these doors. None where that cannot be.
 fn served<R: Threads + Wait + Sync, G: Gate + Sync>(
@@ -64,12 +65,14 @@ fn served<R: Threads + Wait + Sync, G: Gate + Sync>(
             Served {
                 office,
                 door_failed,
+                settled,
             },
         ) => {
+            let is_kept = matches!(settled, Ok(()));
             let entries = office.entries();
             let (count, begins) = (entries.len(), begins_with_an_answer(entries));
             let _keeper = office.into_keeper();
-            Some((door_failed, count, begins))
+            Some((door_failed, is_kept, count, begins))
         }
         Err((office, OutOfMemory)) => {
             let _keeper = office.into_keeper();
@@ -94,7 +97,7 @@ fn hand_over<R: Threads + Wait + Sync>(rt: &R, alloc: Global) -> Option<bool> {
     let ended = served(rt, alloc, &mut doors, &gate)?;
     let [one, two] = &doors;
     Some(
-        ended == (false, 2, true)
+        ended == (false, true, 2, true)
             && gate.all_came()
             && gave_back(one, &[PUBLISHED])
             && gave_back(two, &[LEFT]),
@@ -128,7 +131,7 @@ fn fails_so<R: Threads + Wait + Sync>(
     let written = ["", AT_FIRST];
     let [one, two] = &doors;
     Some(
-        ended == (failed, 1, true)
+        ended == (failed, true, 1, true)
             && gave_back(one, written.get(..count)?)
             && gave_back(two, &[LEFT]),
     )

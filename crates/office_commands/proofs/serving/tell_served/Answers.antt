@@ -13,7 +13,7 @@ use Rattle.office_commands.proofs.serving.tell_served.Goals as goal
 pub returns-in-Ok-clause-written : goal.returns-in-Ok-clause-written
 returns-in-Ok-clause-written g c =
     subst (λ (settled : Result (Unit {0}) Fault). (output : List ℕ) × Appends output (g.K.Sink.written c.args.sink.now) (g.K.Sink.written c.tell_kept.new.sink)
-        × Writes (IsLastText settled c.args.served.office.season c.args.served.office.entries (g.P.Keeper.seen c.tell_kept.result.1).tables c.args.served.door_failed) c.tell_kept.result.0 output)
+    × Writes (IsLastText settled c.args.served.office.season c.args.served.office.entries (g.P.Keeper.seen c.tell_kept.result.1).tables c.args.served.door_failed) c.tell_kept.result.0 output)
     (sym c.in-Ok.is) c.tell_kept.ensures.written
 
 pub returns-in-Err-Keeper-clause-written : goal.returns-in-Err-Keeper-clause-written
