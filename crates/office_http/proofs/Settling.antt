@@ -11,7 +11,7 @@ use Rattle.office_moves.specs.Stands.{Stand}
 use Rattle.office_moves.specs.declared.moves.Entry.{Entry}
 use Rattle.round_cut.specs.Office.{OfficeView}
 use Rattle.round_cut.proofs.Standing.{stand_told, told_on, was_told}
-use Rattle.office_http.specs.Keeping.{CountsKept, HasSettled, IsKept, MayWait, SettlesOffice, StandAfter}
+use Rattle.office_http.specs.Keeping.{CountsKept, HasSettled, IsKept, IsWhole, MayWait, SettlesOffice, StandAfter}
 use Rattle.office_http.specs.Asking.{AsksOffice, HasAnswered, IsAnswerOf, request_of}
 use Rattle.office_http.specs.Bodies.{AreBodies}
 use Rattle.office_http.specs.declared.bodies.Bodies.{Bodies}
@@ -133,8 +133,8 @@ module _ {K : Type 0} (seen : K → KeeperView) where
 
   -- all is kept once nothing waits
   pub all_kept : (result : Result (Unit {0}) Fault) (old new : OfficeView K) (before : ℕ) (settled : Bool) (kept : ℕ) → SettlesOffice seen result old new → CountsKept seen new before settled kept
-      → IsOk result → kept ≡ length new.entries
-  all_kept (Ok done) old new before settled kept settles counts ok = (counts.all (counts.is ∙ settles.1)).0
+      → IsOk result → IsWhole seen new kept
+  all_kept (Ok done) old new before settled kept settles counts ok = counts.all (counts.is ∙ settles.1)
   all_kept (Err fault) old new before settled kept settles counts ok = absurd cc
 
   -- what could not be kept waited before

@@ -2,7 +2,7 @@
 use Rattle.std.proofs.Common.{◌≡◌, ◌≤◌, ◌⊎◌, ℕ, Bool, true, false, List, [], ◌∷◌, ◌++◌, length, Option, Some, None, Result, Ok, Err, inl, inr, refl, sym, ap, subst, ◌∙◌, arith, append-nil, length-append}
 use Rattle.office_desk.specs.Own.{AppendsAtMost, Begins}
 use Rattle.door_crews.specs.Desk.{Known}
-use Rattle.office_http.specs.Keeping.{CountsKept, HasSettled, MayWait, SettlesStood, StoodView}
+use Rattle.office_http.specs.Keeping.{CountsKept, HasSettled, KeepsStood, MayWait, StoodView}
 use Rattle.office_http.specs.Knowing.{AsksInTurn, IsPut, PutsInTurn, SettlesInTurn}
 use Rattle.http_sessions.specs.declared.counter.Answered.{Answered}
 use Rattle.keeper_mem.specs.Keeper.{KeeperView}
@@ -53,13 +53,13 @@ module _ {K : Type 0} (keeper_view : K → KeeperView) where
   settled_goes : (number : ℕ) (failed : Type 0) (held put : StoodView K) → HasSettled keeper_view failed held.office put.office → held.kept ≤ put.kept → GoesBack number held put
   settled_goes number failed held put settled keeps = ((λ i. (settled.season i, settled.room i)), inl settled.entries, settled.count, keeps)
 
-  settled_leaves : (number : ℕ) (result : Result (Unit {0}) Fault) (held put : StoodView K) → SettlesStood keeper_view result held put → GoesBack number held put
-  settled_leaves number (Ok done) held put settled = settled_goes number ⊥ held put settled.0.0 settled.1
-  settled_leaves number (Err Keeper) held put settled = settled_goes number (Unit {0}) held put settled.0.0 settled.1
-  settled_leaves number (Err Memory) held put settled = settled_goes number ⊥ held put settled.0.0 settled.1
+  settled_leaves : (number needed : ℕ) (result : Result (Unit {0}) Fault) (held put : StoodView K) → KeepsStood keeper_view needed result held put → GoesBack number held put
+  settled_leaves number needed (Ok done) held put settled = settled_goes number ⊥ held put settled.0 settled.1
+  settled_leaves number needed (Err Keeper) held put settled = settled_goes number (Unit {0}) held put settled.0.0 settled.1
+  settled_leaves number needed (Err Memory) held put settled = settled_goes number ⊥ held put settled.0.0 settled.1
 
-  pub settled_puts_back : (number : ℕ) (result : Result (Unit {0}) Fault) (shown held put : StoodView K) → shown ≡ held → SettlesStood keeper_view result shown put → GoesBack number held put
-  settled_puts_back number result shown held put same settled = subst (λ o. GoesBack number o put) same (settled_leaves number result shown put settled)
+  pub settled_puts_back : (number needed : ℕ) (result : Result (Unit {0}) Fault) (shown held put : StoodView K) → shown ≡ held → KeepsStood keeper_view needed result shown put → GoesBack number held put
+  settled_puts_back number needed result shown held put same settled = subst (λ o. GoesBack number o put) same (settled_leaves number needed result shown put settled)
 
 -- ---- the pass
 
@@ -196,20 +196,31 @@ module _ {K : Type 0} (keeper_view : K → KeeperView) where
       → (p.count ≤ p'.count) × (p'.found ≡ p'.count)
   counts_on number held left p p' turned steady = (subst (λ n. p.count ≤ n) (sym (turned.count ∙ steady)) turned.counts, turned.found ∙ sym steady ∙ sym turned.count)
 
-  settled_here : (number : ℕ) (result : Result (Unit {0}) Fault) (held left : StoodView K) (p p' : Known Entry) → HasTurned keeper_view number held left p p' → SettlesStood keeper_view result held left
-      → SettlesInTurn p result p'
-  settled_here number (Ok done) held left p p' turned settled =
-      let one = settled.0.0 in
+  -- whatever the pass had seen is kept if as many entries are, or all
+  seen_kept : (number needed : ℕ) (held left : StoodView K) (p p' : Known Entry) → HasTurned keeper_view number held left p p' → left.office.entries ≡ held.office.entries → needed ≡ length p.seen
+      → (needed ≤ left.kept) ⊎ (left.kept ≡ length left.office.entries) → length p.seen ≤ p'.kept
+  seen_kept number needed held left p p' turned same is (inl within) = let after = turned.kept in omega (arith, within, is, after)
+  seen_kept number needed held left p p' turned same is (inr all) =
+      let after = turned.kept in
+      let lengths = ap length same in
+      let more = ap length turned.begins.1 in
+      let sum = length-append p.seen turned.begins.0 in
+      omega (arith, all, after, lengths, more, sum)
+
+  settled_here : (number needed : ℕ) (result : Result (Unit {0}) Fault) (held left : StoodView K) (p p' : Known Entry) → HasTurned keeper_view number held left p p' → KeepsStood keeper_view needed result held left
+      → needed ≡ length p.seen → SettlesInTurn p result p'
+  settled_here number needed (Ok done) held left p p' turned settled is =
+      let one = settled.0 in
       let counts = counts_on number held left p p' turned (one.steady (λ none. none)) in (
         later_seen number held left p p' turned one.entries,
         own_stays number held left p p' turned one.entries,
         kept_on number held left p p' turned,
-        turned.kept ∙ settled.2 refl ∙ ap length (sym turned.seen),
+        seen_kept number needed held left p p' turned one.entries is settled.2,
         counts.0,
         counts.1,
         turned.shares,
       )
-  settled_here number (Err Keeper) held left p p' turned settled =
+  settled_here number needed (Err Keeper) held left p p' turned settled is =
       let one = settled.0.0 in (
         later_seen number held left p p' turned one.entries,
         own_stays number held left p p' turned one.entries,
@@ -218,7 +229,7 @@ module _ {K : Type 0} (keeper_view : K → KeeperView) where
         subst (λ n. Rose n p'.count) (sym turned.found) (subst (λ n. Rose (keeper_view held.office.keeper).faults n) (sym turned.count) (one.cause tt)),
         turned.shares,
       )
-  settled_here number (Err Memory) held left p p' turned settled =
+  settled_here number needed (Err Memory) held left p p' turned settled is =
       let one = settled.0.0 in
       let counts = counts_on number held left p p' turned (one.steady (λ none. none)) in (
         later_seen number held left p p' turned one.entries,
@@ -229,10 +240,10 @@ module _ {K : Type 0} (keeper_view : K → KeeperView) where
         turned.shares,
       )
 
-  pub settled_at_desk : (number : ℕ) (result : Result (Unit {0}) Fault) (shown held left put : StoodView K) (p p' : Known Entry)
-      → shown ≡ held → left ≡ put → HasTurned keeper_view number held put p p' → SettlesStood keeper_view result shown left → SettlesInTurn p result p'
-  settled_at_desk number result shown held left put p p' shows leaves turned settled =
-      settled_here number result held put p p' turned (subst (λ o. SettlesStood keeper_view result held o) leaves (subst (λ o. SettlesStood keeper_view result o left) shows settled))
+  pub settled_at_desk : (number needed : ℕ) (result : Result (Unit {0}) Fault) (shown held left put : StoodView K) (p p' : Known Entry)
+      → shown ≡ held → left ≡ put → HasTurned keeper_view number held put p p' → KeepsStood keeper_view needed result shown left → needed ≡ length p.seen → SettlesInTurn p result p'
+  settled_at_desk number needed result shown held left put p p' shows leaves turned settled is =
+      settled_here number needed result held put p p' turned (subst (λ o. KeepsStood keeper_view needed result held o) leaves (subst (λ o. KeepsStood keeper_view needed result o left) shows settled)) is
 
 -- ---- an ask, of one turn or of two
 
@@ -265,7 +276,7 @@ module _ (facts : SeasonFacts) (room : Bool) (waits : Type 0) where
         put.answers,
         begins,
         then.1 ∙ put.own,
-        (let all = then.3 in let more = ap length begins.1 in let sum = length-append (put.place ++ put.added) begins.0 in omega (arith, all, more, sum)),
+        subst (λ es. length es ≤ p'.kept) put.seen then.3,
         (let one = put.keeps in let two = then.2 in omega (arith, one, two)),
         (let one = put.count in let two = then.4 in omega (arith, one, two)),
         then.5,

@@ -33,10 +33,14 @@ pub record IsKept (begun : Tables) (facts : SeasonFacts) (entries : List Entry) 
   pub tables : StandAfter facts (take kept entries) view.kept ⊎ ((kept ≡ 0) × AreTold begun view.kept)
 
 module _ {K : Type 0} (seen : K → KeeperView) where
+  -- All entries of an office are kept, and the tables that a crash leaves represent the state after them.
+  abbrev pub IsWhole : OfficeView K → ℕ → Type 0
+  IsWhole office kept = (kept ≡ length office.entries) × StandAfter office.season office.entries (seen office.keeper).kept
+
   -- How many entries of an office are kept: all if no row of its keeper waits, and otherwise as many as before.
   pub record CountsKept (office : OfficeView K) (before : ℕ) (settled : Bool) (kept : ℕ) : Type 0 where
     pub is : settled ≡ (seen office.keeper).settled
-    pub all : settled ≡ true → (kept ≡ length office.entries) × StandAfter office.season office.entries (seen office.keeper).kept
+    pub all : settled ≡ true → IsWhole office kept
     pub waits : settled ≡ false → kept ≡ before
 
   -- What settling an office leaves: it accepts nothing, and says whether the keeper failed.
@@ -60,4 +64,9 @@ module _ {K : Type 0} (seen : K → KeeperView) where
 
   -- the same at a desk: no fewer entries are kept, and after an Ok all are
   abbrev pub SettlesStood : Result (Unit {0}) Fault → StoodView K → StoodView K → Type 0
-  SettlesStood result old new = SettlesOffice result old.office new.office × (old.kept ≤ new.kept) × (IsOk result → new.kept ≡ length new.office.entries)
+  SettlesStood result old new = SettlesOffice result old.office new.office × (old.kept ≤ new.kept) × (IsOk result → IsWhole new.office new.kept)
+
+  -- An office at a desk was settled, unless so many entries were kept already: then so many are, or all; or it could not be settled.
+  abbrev pub KeepsStood : ℕ → Result (Unit {0}) Fault → StoodView K → StoodView K → Type 0
+  KeepsStood needed (Ok done) old new = HasSettled ⊥ old.office new.office × (old.kept ≤ new.kept) × ((needed ≤ new.kept) ⊎ (new.kept ≡ length new.office.entries))
+  KeepsStood needed (Err fault) old new = SettlesStood (Err fault) old new

@@ -44,9 +44,9 @@ abbrev pub PutsInTurn : SeasonFacts → Bool → Type 0 → Known Entry → Opti
 PutsInTurn facts room waits p token ask (Ok answered) settled p' = IsPut facts waits p token ask answered settled p'
 PutsInTurn facts room waits p token ask (Err fault) settled p' = AsksInTurn facts room waits p token ask (Err fault) p'
 
--- A turn that settles adds nothing. After an Ok all that the pass has seen is kept.
+-- A turn that settles adds nothing. After an Ok all is kept that the pass had seen before.
 abbrev pub SettlesInTurn : Known Entry → Result (Unit {0}) Fault → Known Entry → Type 0
-SettlesInTurn p (Ok done) p' = Begins p.seen p'.seen × (p'.own ≡ p.own) × (p.kept ≤ p'.kept) × (p'.kept ≡ length p'.seen)
+SettlesInTurn p (Ok done) p' = Begins p.seen p'.seen × (p'.own ≡ p.own) × (p.kept ≤ p'.kept) × (length p.seen ≤ p'.kept)
     × (p.count ≤ p'.count) × (p'.found ≡ p'.count) × (p'.shares ≡ p.shares)
 SettlesInTurn p (Err Keeper) p' = Begins p.seen p'.seen × (p'.own ≡ p.own) × (p.kept ≤ p'.kept)
     × (p.count ≤ p'.found) × Rose p'.found p'.count × (p'.shares ≡ p.shares)

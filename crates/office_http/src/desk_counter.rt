@@ -1,9 +1,9 @@
 // An office at a desk as a counter.
-ghost use Rattle.std.specs.Prelude.{◌≡◌, ◌<◌, ◌≤◌, ◌+◌, option_copied};
+ghost use Rattle.std.specs.Prelude.{◌≡◌, ◌<◌, ◌≤◌, ◌+◌, length, option_copied};
 ghost use Rattle.office_http.specs.Asking.{AsksOffice, token_of};
-ghost use Rattle.office_http.specs.Keeping.{CountsKept, MayWait, SettlesStood};
+ghost use Rattle.office_http.specs.Keeping.{CountsKept, KeepsStood, MayWait};
 ghost use Rattle.office_http.specs.Knowing.{PutsInTurn, SettlesInTurn, known_of};
-ghost use Rattle.office_desk.specs.Words.{belongs, left_of, origin_of};
+ghost use Rattle.office_desk.specs.Words.{belongs, left_of, origin_of, seen_of};
 ghost use Rattle.proceedings.specs.Proceeding.{last_of};
 
 use crate::stood::{DeskOffice, TablesBefore};
@@ -38,7 +38,8 @@ impl<'a, V: Keeps, R: Wait> DeskCounter<'a, V, R> {
     }
 }
 
-/// Puts an ask with its token to the office in one turn. Returns also whether nothing waits to be kept then.
+/// Puts an ask with its token to the office in one turn.
+/// Returns also whether nothing waits to be kept then, and how many entries the office has.
 fn put_in_turn<K: Keeper, B: TablesBefore, R: Wait>(
     rt: &R,
     desk: &Desk<DeskOffice<K, B>>,
@@ -46,7 +47,7 @@ fn put_in_turn<K: Keeper, B: TablesBefore, R: Wait>(
     alloc: Global,
     token: Option<&[u8]>,
     ask: &Ask,
-) -> (Result<Answered, Fault>, bool)
+) -> (Result<Answered, Fault>, bool, usize)
     requires desk { belongs desk.now pass.old }
     requires left { 1 ≤ left_of pass.old }
     ensures desk { belongs desk.now pass.new }
@@ -54,29 +55,33 @@ fn put_in_turn<K: Keeper, B: TablesBefore, R: Wait>(
     ensures put { PutsInTurn (origin_of desk.now).office.season
         (K.seen (origin_of desk.now).office.keeper).holds_room (MayWait K.seen) (known_of pass.old)
         (option_copied token.entry) ask.now result.0 result.1 (known_of pass.new) }
+    ensures count { result.2 ≡ length (seen_of pass.new) }
 {
     let (has_token, bytes) = token_parts(token);
     desk.turn(
         rt,
         pass,
-        |stood: &mut DeskOffice<K, B>, number: u64| -> (Result<Answered, Fault>, bool)
+        |stood: &mut DeskOffice<K, B>, number: u64| -> (Result<Answered, Fault>, bool, usize)
             requires { last_of stood.old.office.entries < number }
             ensures { AsksOffice K.seen number (token_of has_token bytes.entry.now) ask.entry.now
                 result.0 stood.old.office stood.new.office × CountsKept K.seen stood.new.office
-                stood.old.kept result.1 stood.new.kept × (stood.old.kept ≤ stood.new.kept) }
+                stood.old.kept result.1 stood.new.kept × (stood.old.kept ≤ stood.new.kept)
+                × (result.2 ≡ length stood.new.office.entries) }
         { stood.put(alloc, number, has_token, bytes, ask) },
     )
 }
 
-/// Keeps in one turn what waits of the office, unless another turn has kept it by then. Who waits for a turn goes first,
-/// so that one sync keeps what they put as well.
+/// Keeps in one turn what waits of the office, unless another turn has kept so many entries by then: all that the pass
+/// has seen. Who waits for a turn goes first, so that one sync keeps what they put as well.
 fn settle_in_turn<K: Keeper, B: TablesBefore, R: Wait>(
     rt: &R,
     desk: &Desk<DeskOffice<K, B>>,
     pass: &mut Pass<DeskOffice<K, B>>,
+    needed: usize,
 ) -> Result<(), Fault>
     requires desk { belongs desk.now pass.old }
     requires left { 1 ≤ left_of pass.old }
+    requires needed { needed ≡ length (seen_of pass.old) }
     ensures desk { belongs desk.now pass.new }
     ensures left { left_of pass.old ≡ left_of pass.new + 1 }
     ensures settled { SettlesInTurn (known_of pass.old) result (known_of pass.new) }
@@ -86,10 +91,10 @@ fn settle_in_turn<K: Keeper, B: TablesBefore, R: Wait>(
         pass,
         |stood: &mut DeskOffice<K, B>, number: u64| -> Result<(), Fault>
             requires { last_of stood.old.office.entries < number }
-            ensures { SettlesStood K.seen result stood.old stood.new }
+            ensures { KeepsStood K.seen needed result stood.old stood.new }
         {
             let _turn = number;
-            stood.settle()
+            stood.keep(needed)
         },
     )
 }
@@ -109,12 +114,14 @@ impl<K: Keeper, B: TablesBefore, R: Wait> Counter for DeskCounter<'_, DeskOffice
         × AsksInTurn (origin_of c.desk.now).office.season (K.seen (origin_of c.desk.now).office.keeper).holds_room (MayWait K.seen) (known_of c.pass.now) token ask answer (known_of c'.pass.now) };
 
     fn ask(&mut self, alloc: Global, token: Option<&[u8]>, ask: &Ask) -> Result<Answered, Fault> {
-        let (answer, settled) = put_in_turn(self.rt, self.desk, self.pass, alloc, token, ask);
+        let (answer, settled, count) = put_in_turn(
+            self.rt, self.desk, self.pass, alloc, token, ask,
+        );
         let answered = answer?;
         if settled {
             return Ok(answered);
         }
-        match settle_in_turn(self.rt, self.desk, self.pass) {
+        match settle_in_turn(self.rt, self.desk, self.pass, count) {
             Ok(()) => Ok(answered),
             Err(fault) => Err(fault),
         }

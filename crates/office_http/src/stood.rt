@@ -1,8 +1,8 @@
 // An office as it is given to a desk.
-ghost use Rattle.std.specs.Prelude.{◌≡◌, ◌<◌, ◌≤◌};
+ghost use Rattle.std.specs.Prelude.{◌≡◌, ◌<◌, ◌≤◌, length};
 ghost use Rattle.kept_rows.specs.Tables.{IsTold};
 ghost use Rattle.office_http.specs.Asking.{AsksOffice, token_of};
-ghost use Rattle.office_http.specs.Keeping.{CountsKept, IsKept, SettlesStood};
+ghost use Rattle.office_http.specs.Keeping.{CountsKept, IsKept, KeepsStood, SettlesStood};
 ghost use Rattle.proceedings.specs.Proceeding.{last_of};
 
 use crate::putting::settle_office;
@@ -116,7 +116,7 @@ impl<K: Keeper, B: TablesBefore> DeskOffice<K, B> {
     }
 
     /// Puts an ask with its token to the office, as `put_to_office` does.
-    /// Returns also whether nothing waits to be kept then.
+    /// Returns also whether nothing waits to be kept then, and how many entries the office has.
     pub fn put(
         &mut self,
         alloc: Global,
@@ -124,12 +124,13 @@ impl<K: Keeper, B: TablesBefore> DeskOffice<K, B> {
         has_token: bool,
         token: &[u8],
         ask: &Ask,
-    ) -> (Result<Answered, Fault>, bool)
+    ) -> (Result<Answered, Fault>, bool, usize)
         requires { last_of self.old.office.entries < number }
         ensures asked { AsksOffice K.seen number (token_of has_token token.now)
             ask.now result.0 self.old.office self.new.office }
         ensures counted { CountsKept K.seen self.new.office self.old.kept result.1 self.new.kept }
         ensures keeps { self.old.kept ≤ self.new.kept }
+        ensures count { result.2 ≡ length self.new.office.entries }
     {
         let answer = put_to_office(
             alloc,
@@ -142,7 +143,7 @@ impl<K: Keeper, B: TablesBefore> DeskOffice<K, B> {
         );
         let (settled, kept) = count_kept(&self.office, self.kept);
         self.kept = kept;
-        (answer, settled)
+        (answer, settled, self.office.entries().len())
     }
 
     /// Keeps what waits, unless nothing does. It accepts nothing.
@@ -154,6 +155,17 @@ impl<K: Keeper, B: TablesBefore> DeskOffice<K, B> {
         let (_, kept) = count_kept(&self.office, self.kept);
         self.kept = kept;
         done
+    }
+
+    /// Keeps what waits, unless so many entries are kept already. It accepts nothing.
+    /// After a fault what waited still waits, and a crash may take it back.
+    pub fn keep(&mut self, needed: usize) -> Result<(), Fault>
+        ensures { KeepsStood K.seen needed result self.old self.new }
+    {
+        if needed <= self.kept {
+            return Ok(());
+        }
+        self.settle()
     }
 
     /// Returns the office. The tables of its keeper are visible only if they were visible at the beginning.

@@ -1,5 +1,5 @@
 use denote.Param.Send.{sendable}
-use Rattle.std.proofs.Common.{◌≡◌, ◌≤◌, [], ap, arith, length, refl, subst, sym, ◌∙◌}
+use Rattle.std.proofs.Common.{◌≡◌, ◌≤◌, [], ap, arith, refl, subst, sym, ◌∙◌}
 use Rattle.office_http.specs.Asking.{AnswersAt, UnanswersAt}
 use Rattle.office_desk.specs.Own.{among}
 use Rattle.office_desk.specs.Words.{count_of, origin_of, own_of, seen_of}
@@ -8,7 +8,8 @@ use Rattle.door_crews.proofs.Rows.{all_doors, rows_are_served}
 use Rattle.office_http.specs.Hands.{worker_of}
 use Rattle.office_base.specs.Outside.{Rose}
 use Rattle.kept_rows.specs.Tables.{Tables}
-use Rattle.office_http.specs.Keeping.{IsKept, MayWait}
+use Rattle.office_http.specs.Keeping.{IsKept, IsWhole, MayWait}
+use Rattle.round_cut.specs.Office.{OfficeView}
 use Rattle.office_http.proofs.Settling.{blamed_so, settled_so, waited_so}
 use Rattle.office_http.proofs.Handing.{none_among}
 use Rattle.office_http.proofs.Sending.{buffers_sent}
@@ -51,7 +52,7 @@ returns-clause-served g c =
           (subst (λ o. count_of c.work_all.new.crew.pass ≤ (seen o.keeper).faults) (sym office) (omega (arith, counted, on)))
           (let known = c.close-stood.ensures.kept in let then = settles.1 in omega (arith, known, then));
       tables = subst (λ (t : Tables). IsKept t c.into_office.result.season c.into_office.result.entries c.settle-settled.new.self.kept (seen c.into_office.result.keeper)) (sym c.requires.begun) c.into_office.ensures.kept;
-      whole = λ ok. settles.2 ok ∙ ap (λ o. length o.entries) (sym office);
+      whole = λ ok. subst (λ (o : OfficeView _). IsWhole seen o c.settle-settled.new.self.kept) (sym office) (settles.2 ok);
       waited = waited_so seen c.settle-settled.result c.close-stood.result.office c.settle-settled.new.self.office settles.0;
       blamed = λ is. subst (λ o. Rose (seen origin.keeper).faults (seen o.keeper).faults) (sym office)
           (blamed_so seen c.settle-settled.result c.close-stood.result.office c.settle-settled.new.self.office (seen origin.keeper).faults settles.0 (omega (arith, first, more, counted)) is);
