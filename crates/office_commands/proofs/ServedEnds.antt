@@ -105,9 +105,10 @@ module _ {K D L : Type 0} (seen : K → KeeperView) (of : DoorLooks D L) (before
   pub all_served : IsOk settled
       → (doors_of of (seen before.keeper).holds_room (MayWait seen) (seen before.keeper).faults (seen keeper).faults (seen keeper).kept doors doors').served before.season before.entries after.entries failed
   all_served ok = (
-    subst (λ n. DoorsServed before.season (seen before.keeper).holds_room (MayWait seen) n of before.entries (seen before.keeper).faults doors doors' after.entries (seen keeper).faults) (serves.whole ok)
+    subst (λ n. DoorsServed before.season (seen before.keeper).holds_room (MayWait seen) n of before.entries (seen before.keeper).faults doors doors' after.entries (seen keeper).faults) (serves.whole ok).0
         (by_keeper serves.kept serves.served),
     have_ended of failed doors doors' serves.failed serves.done,
+    subst (λ (f : SeasonFacts). StandAfter f after.entries (seen keeper).kept) serves.season (subst (λ k. StandAfter after.season after.entries (seen k).kept) (sym same) (serves.whole ok).1),
   )
 
   pub part_served : IsErr settled

@@ -26,13 +26,14 @@ module _ {D L : Type 0} (of : DoorLooks D L) where
 
   -- The doors before and after. The keeper holds room in advance or does not, and may let rows wait or does not.
   -- Its count of faults went from `before` to `after`, and a crash leaves these tables.
-  -- If the office was served well, all that was answered is within the history.
+  -- If the office was served well, all that was answered is within the history, and these tables represent the state after it.
   -- If what waited could not be kept, so many of the first entries are, and all that was answered is among them.
   -- The tables represent the state after these, unless none is known to be kept.
   abbrev pub doors_of : Bool → Type 0 → ℕ → ℕ → Tables → List D → List D → Doors
   doors_of room waits before after tables doors doors' = record {
     spared = doors' ≡ doors;
-    served = λ facts held history failed. DoorsServed facts room waits (length history) of held before doors doors' history after × HaveEnded failed doors doors';
+    served = λ facts held history failed. DoorsServed facts room waits (length history) of held before doors doors' history after × HaveEnded failed doors doors'
+        × StandAfter facts history tables;
     lost = λ facts held history failed. (kept : ℕ) × DoorsServed facts room waits kept of held before doors doors' history after × HaveEnded failed doors doors'
         × waits × (StandAfter facts (take kept history) tables ⊎ (kept ≡ 0));
   }
