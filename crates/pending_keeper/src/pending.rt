@@ -11,6 +11,7 @@ use std::marker::Model;
 
 /// Lets answers and raises wait, in memory, until it is settled. Then it puts all of them in one call of the keeper below.
 /// Every other call settles first. It holds no room in advance, since it pushes each row when it comes.
+#[derive(Drop)]
 pub struct Pending<K: Batch> {
     keeper: K,
     rows: Vec<Put>,
