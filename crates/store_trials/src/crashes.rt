@@ -1,9 +1,11 @@
 // The season over two files whose disk stops at a call. Each later call on that file fails, and a crash leaves what was synced.
 // What is opened then holds the requests that were reported as accepted, perhaps one more, and resumes from there.
 // No head of a log that a crash leaves is refused.
+// If rows wait above the keeper, what a crash leaves has all answers between two cuts or none of them.
 use crate::seasons::{goes_on, run_told, whole};
 use keeper_sqlite::SqliteKeeper;
 use kept_rows::Kept;
+use pending_keeper::Pending;
 use sqlite::{FileStore, Files, Options};
 use sqlite_disk::{Crash, Disk, Fuse, Memory};
 use std::alloc::Global;
@@ -80,6 +82,13 @@ fn begun(alloc: Global, files: Stopping) -> Result<Store, Stopping> {
     }
 }
 
+/// Whether each row is kept at once, or rows wait above the keeper until a cut.
+#[derive(Clone, Copy)]
+enum Keep {
+    AtOnce,
+    Waiting,
+}
+
 /// What a crash leaves of a run.
 struct Leaving {
     files: Stopping,
@@ -101,10 +110,25 @@ fn run_to_crash(alloc: Global, keeper: Store) -> Result<Leaving, Fail> {
     }
 }
 
+// Runs the season over a keeper above this one in which rows wait, and crashes. What still waits is lost.
+fn run_waiting_to_crash(alloc: Global, keeper: Store) -> Result<Leaving, Fail> {
+    match run_told(alloc, Pending::new(alloc, keeper)) {
+        Ok((is_well, told, waiting)) => Ok(Leaving {
+            files: crashed(files_of(waiting.into_keeper())),
+            told,
+            is_well,
+        }),
+        Err(fail) => Err(fail),
+    }
+}
+
 // The same over these files, where a run may not even begin.
-fn run_and_crash(alloc: Global, files: Stopping) -> Result<Leaving, Fail> {
+fn run_and_crash(alloc: Global, files: Stopping, keep: Keep) -> Result<Leaving, Fail> {
     match begun(alloc, files) {
-        Ok(keeper) => run_to_crash(alloc, keeper),
+        Ok(keeper) => match keep {
+            Keep::AtOnce => run_to_crash(alloc, keeper),
+            Keep::Waiting => run_waiting_to_crash(alloc, keeper),
+        },
         Err(files) => Ok(Leaving {
             files,
             told: 0,
@@ -116,10 +140,22 @@ fn run_and_crash(alloc: Global, files: Stopping) -> Result<Leaving, Fail> {
 // Drops the files. It is a function of its own, because what it proves is much.
 fn let_go(_files: Stopping) {}
 
-// Whether what a crash left is opened again, and goes on.
-fn survives(alloc: Global, files: Stopping, told: usize, whole: &Kept) -> Result<bool, Fail> {
+// Whether what a crash left after so many accepted requests is opened again, and goes on.
+// Of the six requests the first and the last are cuts. A cut is kept at once, after all that waits.
+fn survives(
+    alloc: Global,
+    files: Stopping,
+    told: usize,
+    keep: Keep,
+    whole: &Kept,
+) -> Result<bool, Fail> {
+    let next = [told, told.saturating_add(1)];
+    let counts: &[usize] = match (keep, told) {
+        (Keep::Waiting, 1..=5) => &[1, 5, 6],
+        _ => &next,
+    };
     match begun(alloc, files) {
-        Ok(keeper) => goes_on(alloc, keeper, told, whole),
+        Ok(keeper) => goes_on(alloc, keeper, counts, whole),
         Err(files) => {
             let_go(files);
             Ok(false)
@@ -128,20 +164,26 @@ fn survives(alloc: Global, files: Stopping, told: usize, whole: &Kept) -> Result
 }
 
 // Whether the season survives a stop at this call, and whether it ended well before.
-fn survives_one(alloc: Global, stop: Stop, calls: u64, whole: &Kept) -> Result<(bool, bool), Fail> {
+fn survives_one(
+    alloc: Global,
+    stop: Stop,
+    calls: u64,
+    keep: Keep,
+    whole: &Kept,
+) -> Result<(bool, bool), Fail> {
     let Leaving {
         files,
         told,
         is_well,
-    } = run_and_crash(alloc, empty_files(alloc, stop, calls))?;
-    Ok((survives(alloc, files, told, whole)?, is_well))
+    } = run_and_crash(alloc, empty_files(alloc, stop, calls), keep)?;
+    Ok((survives(alloc, files, told, keep, whole)?, is_well))
 }
 
 // Whether the season survives a stop at each call, up to the number of calls that a run makes.
-fn survives_each(alloc: Global, stop: Stop) -> Result<bool, Fail> {
+fn survives_each(alloc: Global, stop: Stop, keep: Keep) -> Result<bool, Fail> {
     let whole = whole(alloc)?;
     for calls in 0..100_000 {
-        let (has_survived, is_well) = survives_one(alloc, stop, calls, &whole)?;
+        let (has_survived, is_well) = survives_one(alloc, stop, calls, keep, &whole)?;
         if !has_survived {
             return Ok(false);
         }
@@ -154,12 +196,18 @@ fn survives_each(alloc: Global, stop: Stop) -> Result<bool, Fail> {
 
 #[test]
 fn the_log_stops(rt: HostRuntime) -> Result<(), Fail> {
-    assert!(rt; survives_each(rt.alloc(), Stop::Log)?);
+    assert!(rt; survives_each(rt.alloc(), Stop::Log, Keep::AtOnce)?);
     Ok(())
 }
 
 #[test]
 fn the_database_stops(rt: HostRuntime) -> Result<(), Fail> {
-    assert!(rt; survives_each(rt.alloc(), Stop::Database)?);
+    assert!(rt; survives_each(rt.alloc(), Stop::Database, Keep::AtOnce)?);
+    Ok(())
+}
+
+#[test]
+fn the_log_stops_while_rows_wait(rt: HostRuntime) -> Result<(), Fail> {
+    assert!(rt; survives_each(rt.alloc(), Stop::Log, Keep::Waiting)?);
     Ok(())
 }

@@ -108,21 +108,31 @@ fn becomes_whole<P: Keeper + Drop>(alloc: Global, keeper: P, whole: &Kept) -> Re
     Ok(status == Status::Ok && are_equal(&records(alloc, &mut keeper)?, whole))
 }
 
-/// Whether the keeper goes on after so many accepted requests or one more, up to the whole season. Before any there may be no season.
+// Whether these records are those after one of these numbers of accepted requests.
+fn is_after_one(held: &Kept, output: &str, counts: &[usize]) -> bool {
+    for count in counts {
+        if is_after(held, output, *count) {
+            return true;
+        }
+    }
+    false
+}
+
+/// Whether the keeper goes on after one of these numbers of accepted requests, up to the whole season. Before any there may be no season.
 pub fn goes_on<P: Keeper + Drop>(
     alloc: Global,
     keeper: P,
-    told: usize,
+    counts: &[usize],
     whole: &Kept,
 ) -> Result<bool, Fail> {
     let (status, output, mut keeper) = resume(alloc, STATE, keeper)?;
     if status != Status::Ok {
-        return Ok(told == 0 && output.as_str() == "fault: keeper holds no season\n");
+        return Ok(
+            counts.first() == Some(&0) && output.as_str() == "fault: keeper holds no season\n",
+        );
     }
     let held = records(alloc, &mut keeper)?;
-    let is_near = is_after(&held, &output, told)
-        || is_after(&held, &output, told.saturating_add(1));
-    Ok(is_near && becomes_whole(alloc, keeper, whole)?)
+    Ok(is_after_one(&held, &output, counts) && becomes_whole(alloc, keeper, whole)?)
 }
 
 /// The keeper after the whole season, where that ended well.
