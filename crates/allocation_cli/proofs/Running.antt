@@ -1,5 +1,5 @@
 -- A run over a keeper of two files.
-use Rattle.std.proofs.Common.{ℕ, List, Option, Result, Ok, Err, IfOk, IfErr}
+use Rattle.std.proofs.Common.{◌≡◌, ℕ, List, [], Option, Some, None, Result, Ok, Err, IfOk, IfErr, subst, sym}
 use Rattle.sqlite_disk.specs.declared.Disk as disk
 use Rattle.sqlite_store.specs.declared.store.FileStore.{FileStore}
 use Rattle.sqlite_wal.specs.Recovery.{Image}
@@ -12,12 +12,29 @@ use Rattle.command_answers.specs.declared.status.Status.{Status}
 use Rattle.command_words.specs.declared.words.Service.{Service}
 use Rattle.system_edge.specs.Held.{AreHeld}
 use Rattle.system_edge.specs.Tables.{HoldsFiles}
-use Rattle.allocation_cli.specs.Running.{RunsAt, RunsOverFiles, StreamsUsed}
+use Rattle.pending_keeper.specs.Pending.{PendingView}
+use Rattle.allocation_cli.specs.Running.{RunsAt, RunsOver, RunsOverFiles, StreamsUsed, waiting_over}
+
+module _ {P D L X : Type 0} (p : KeeperGhosts P) (d : DoorGhosts D L) (l : LinkGhosts L) (words : List (List ℕ)) (service : Option Service) (streams : StreamsUsed) (keeper : P) where
+  -- where no service is named, each row is kept at once
+  pub runs_at_once : (keeper' : P) → service ≡ None → (result : Result Status X) → IfOk result (RunsAt p d l words service streams keeper keeper')
+      → IfOk result (RunsOver p d l service words streams keeper keeper')
+  runs_at_once keeper' none (Ok status) runs =
+      subst (λ s. RunsOver p d l s words streams keeper keeper' status) (sym none) (subst (λ s. RunsAt p d l words s streams keeper keeper' status) none runs)
+  runs_at_once keeper' none (Err what) runs = tt
+
+  -- where one is named, rows wait
+  pub runs_waiting : (waiting : PendingView P) (keeper' : P) (named : Service) → service ≡ Some named → keeper' ≡ waiting.keeper → (result : Result Status X)
+      → IfOk result (RunsAt (waiting_over p) d l words service streams (record { keeper = keeper; rows = [] }) waiting) → IfOk result (RunsOver p d l service words streams keeper keeper')
+  runs_waiting waiting keeper' named some same (Ok status) runs =
+      subst (λ k. RunsOver p d l service words streams keeper k status) (sym same) (subst (λ s. RunsOver p d l s words streams keeper waiting.keeper status) (sym some)
+      (record { left = waiting.rows; runs = subst (λ s. RunsAt (waiting_over p) d l words s streams (record { keeper = keeper; rows = [] }) waiting status) some runs }))
+  runs_waiting waiting keeper' named some same (Err what) runs = tt
 
 -- what runs over a keeper of two files runs over the files
 pub over_files : {F D L X : Type 0} {g : disk.Ghosts F} → (p : KeeperGhosts (Stored (FileStore F g))) (d : DoorGhosts D L) (l : LinkGhosts L) (image : Image) (words : List (List ℕ)) (service : Option Service)
     (streams : StreamsUsed) (keeper keeper' : Stored (FileStore F g)) → HoldsFiles image keeper → (IsTold (p.seen keeper).tables → AreHeld image (p.seen keeper).tables) → (result : Result Status X)
-    → IfOk result (RunsAt p d l words service streams keeper keeper') → IfOk result (RunsOverFiles p d l image words service streams)
+    → IfOk result (RunsOver p d l service words streams keeper keeper') → IfOk result (RunsOverFiles p d l image words service streams)
 over_files p d l image words service streams keeper keeper' holds records (Ok status) runs =
     record { keeper = keeper; keeper' = keeper'; holds = holds; records = records; runs = runs }
 over_files p d l image words service streams keeper keeper' holds records (Err what) runs = tt

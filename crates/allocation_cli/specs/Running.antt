@@ -1,5 +1,5 @@
 -- The words of the program, run over the store that they name.
-use Rattle.std.specs.Prelude.{◌≡◌, List, Option, ℕ, map}
+use Rattle.std.specs.Prelude.{◌≡◌, List, [], Option, Some, None, ℕ, map}
 use Rattle.sqlite_disk.specs.declared.Disk as disk
 use Rattle.sqlite_store.specs.declared.store.FileStore.{FileStore}
 use Rattle.sqlite_wal.specs.Recovery.{Image}
@@ -10,7 +10,9 @@ use Rattle.office_links.specs.declared.outside.Door.{Ghosts as DoorGhosts}
 use Rattle.office_links.specs.declared.outside.Link.{Ghosts as LinkGhosts}
 use Rattle.kept_rows.specs.Tables.{NoSeason, IsTold}
 use Rattle.keeper_mem.specs.declared.keeper.Keeper.{Ghosts as KeeperGhosts}
+use Rattle.keeper_mem.specs.declared.batch.Put.{Put}
 use Rattle.keeper_sqlite.specs.Stored.{Stored}
+use Rattle.pending_keeper.specs.Pending.{PendingView, pending_seen}
 use Rattle.command_answers.specs.declared.status.Status.{Status}
 use Rattle.command_words.specs.declared.words.Service.{Service}
 use Rattle.office_commands.specs.Call.{Call, call_of}
@@ -58,6 +60,21 @@ module _ {P D L : Type 0} (p : KeeperGhosts P) (d : DoorGhosts D L) (l : LinkGho
     pub steady : (p.seen keeper').faults ≡ 0
     pub runs : RunsAt words service streams keeper keeper' status
 
+-- what is seen of a keeper in which rows wait, by what is seen of the one below it
+abbrev pub waiting_over : {P : Type 0} → KeeperGhosts P → KeeperGhosts (PendingView P)
+waiting_over p = record { seen = pending_seen p.seen }
+
+module _ {P D L : Type 0} (p : KeeperGhosts P) (d : DoorGhosts D L) (l : LinkGhosts L) where
+  -- The words were run over a keeper in which rows wait, above the first one, which became the second. None waited at the beginning.
+  pub record RunsWaiting (words : List (List ℕ)) (service : Option Service) (streams : StreamsUsed) (keeper keeper' : P) (status : Status) : Type 0 where
+    pub left : List Put
+    pub runs : RunsAt (waiting_over p) d l words service streams (record { keeper = keeper; rows = [] }) (record { keeper = keeper'; rows = left }) status
+
+  -- Under a service rows wait, so that one sync keeps those of many; otherwise each is kept at once.
+  abbrev pub RunsOver : Option Service → List (List ℕ) → StreamsUsed → P → P → Status → Type 0
+  RunsOver None words streams keeper keeper' status = RunsAt p d l words None streams keeper keeper' status
+  RunsOver (Some service) words streams keeper keeper' status = RunsWaiting words (Some service) streams keeper keeper' status
+
 -- The words were run over a keeper that was opened over two files, which held this.
 -- The records that it showed at the beginning, if it showed any, are those that the files held.
 pub record RunsOverFiles {F D L : Type 0} {g : disk.Ghosts F} (p : KeeperGhosts (Stored (FileStore F g))) (d : DoorGhosts D L) (l : LinkGhosts L) (image : Image)
@@ -66,4 +83,4 @@ pub record RunsOverFiles {F D L : Type 0} {g : disk.Ghosts F} (p : KeeperGhosts 
   pub keeper' : Stored (FileStore F g)
   pub holds : HoldsFiles image keeper
   pub records : IsTold (p.seen keeper).tables → AreHeld image (p.seen keeper).tables
-  pub runs : RunsAt p d l words service streams keeper keeper' status
+  pub runs : RunsOver p d l service words streams keeper keeper' status

@@ -17,15 +17,16 @@ ghost use Rattle.office_base.specs.Limits.{most_doors, most_connections};
 ghost use Rattle.office_commands.specs.Keeping.{RunsWords};
 ghost use Rattle.office_commands.specs.Named.{doors_named};
 ghost use Rattle.allocation_cli.specs.Named.{AreDoorsFor, AreNamed, HaveTaken};
-ghost use Rattle.allocation_cli.specs.Running.{RunsAt, RunsInMemory, RunsOverFiles, call_at, used};
+ghost use Rattle.allocation_cli.specs.Running.{RunsAt, RunsInMemory, RunsOver, RunsOverFiles, call_at, used};
 
 use command_answers::{Status, tell_no_memory};
 use command_words::laws::one_spelling;
 use command_words::{Service, WordsFault, read_words};
-use keeper_mem::{Keeper, SureKeeper, Teller};
+use keeper_mem::{Batch, Keeper, SureKeeper, Teller};
 use office_base::{OutOfMemory, Sink, Source, Words};
 use office_commands::allocate;
 use office_links::{Door, Link};
+use pending_keeper::Pending;
 use sqlite::Start;
 use standard_streams::{StandardInput, StandardOutput, tell_unheld, words_of};
 use std::alloc::Global;
@@ -234,9 +235,41 @@ fn over_file<
     let Some(keeper) = open_keeper(rt, file) else {
         return Err(Unopened::Store);
     };
-    let (ended, keeper) = answer(rt, host, words, service, source, sink, keeper);
+    let (ended, keeper) = answer_over(rt, host, words, service, source, sink, keeper);
     close_keeper(keeper);
     ended
+}
+
+// Runs the words over this keeper, at the doors that they name. Under a service, rows wait above it and are put together.
+fn answer_over<
+    H: Threads + Wait + Sync + Net<Listener = TcpListener, Stream = TcpStream>,
+    I: Source,
+    K: Sink,
+    P: Batch + Send,
+>(
+    rt: &HostRuntime,
+    host: &H,
+    words: &Words,
+    service: &Option<Service>,
+    source: &mut I,
+    sink: &mut K,
+    keeper: P,
+) -> (Result<Status, Unopened>, P)
+    requires { (file : _) × AreNamed words.now file service.now }
+    ensures runs { IfOk result.0 (RunsOver P.Keeper ⟦<SystemDoor<'static> as Door>⟧
+        ⟦<SystemLink<'static> as Link>⟧ service.now words.now (used I.Source K.Sink
+        source.old source.new sink.old sink.new) keeper result.1) }
+    ensures unbound { IfErr result.0 (λ what. (what ≡ Unopened.Port) × IsSome service.now) }
+    ensures spared { IsErr result.0 → (source.new ≡ source.old) × (sink.new ≡ sink.old) }
+{
+    match service {
+        None => answer(rt, host, words, service, source, sink, keeper),
+        Some(_) => {
+            let waiting = Pending::new(rt.alloc(), keeper);
+            let (ended, waiting) = answer(rt, host, words, service, source, sink, waiting);
+            (ended, waiting.into_keeper())
+        }
+    }
 }
 
 // Runs the words over this keeper, at the doors that they name.
