@@ -6,14 +6,15 @@ import secrets
 import shutil
 import sqlite3
 import tempfile
+from typing import Iterable, Iterator, Optional
 
-from bundles import ended, is_units, plain_bundle, rows, season_of, sections, split_at, table, told
+from bundles import Call, ended, is_units, plain_bundle, rows, season_of, sections, split_at, table, told
 from formats import ANSWERS, HEADERS, SECTIONS, STEPS, TOKEN
 
 # ---- what is published
 
 
-def listed(requests, rounds, codes):
+def listed(requests: list[list[str]], rounds: int, codes: list[str]) -> Iterator[str]:
     """Gives the rows of requests, with a row for each list after each cut that is accepted."""
     now = 0
     for row in requests:
@@ -24,9 +25,11 @@ def listed(requests, rounds, codes):
                 yield from (f"list,nobody,{now},{code}" for code in codes)
 
 
-def published(output):
+def published(output: bytes) -> bytes:
     """Returns the texts of rounds, lists and final admissions in what the office wrote, each once: a repeated cut gives its text again."""
-    texts, block, seen = [], None, set()
+    texts: list[bytes] = []
+    block: Optional[list[bytes]] = None
+    seen: set[bytes] = set()
     for line in output.splitlines(keepends=True):
         word = line.split(b" ")[0]
         if block is None and word in (b"round", b"list", b"final") and not line.startswith(b"final admitted"):
@@ -41,12 +44,12 @@ def published(output):
     return b"".join(texts)
 
 
-def codes_of(bundle):
+def codes_of(bundle: bytes) -> list[str]:
     """Returns the programmes of a bundle, in the order in which they first appear."""
     return [*dict.fromkeys(row[0] for row in table(sections(bundle)["matrix"].body))]
 
 
-def asked(bundle, requests):
+def asked(bundle: bytes, requests: list[list[str]]) -> bytes:
     """Returns the rows that ask for all that is published, from the season and its requests."""
     return "".join(f"{row}\n" for row in listed(requests, int(season_of(bundle)["rounds"]), codes_of(bundle))).encode()
 
@@ -54,7 +57,7 @@ def asked(bundle, requests):
 # ---- a bundle
 
 
-def of_bundle(call, bundle):
+def of_bundle(call: Call, bundle: bytes) -> bytes:
     """Returns the dossier of a bundle with its requests; that of a bundle with units has its plain bundle."""
     bundle = plain_bundle(call, bundle) if is_units(bundle) else bundle
     told(call, ["check"], bundle)
@@ -67,13 +70,14 @@ def of_bundle(call, bundle):
 # ---- a store
 
 
-def kept(store):
+def kept(store: str) -> tuple[bytes, list[list[str]]]:
     """Returns the season that a store keeps, and the requests that were accepted, window by window."""
     base = sqlite3.connect(store)
     try:
         text = b"".join(it for (it,) in base.execute("SELECT bytes FROM season ORDER BY part"))
         cuts = base.execute("SELECT cuts FROM phase").fetchone()[0]
-        codes, requests = codes_of(text), []
+        codes = codes_of(text)
+        requests: list[list[str]] = []
         for window in range(cuts + 1):
             for _, prog, step, seats in base.execute("SELECT seq, prog, step, seats FROM lift WHERE win = ? ORDER BY seq", (window,)):
                 requests.append(["raise", "clerk", str(window), codes[prog], STEPS[step], str(seats)])
@@ -86,7 +90,7 @@ def kept(store):
     return text, requests
 
 
-def of_store(call, store):
+def of_store(call: Call, store: str) -> bytes:
     """Returns the dossier of the season that a store keeps. The office confirms its records first, and then writes again what it published."""
     with tempfile.TemporaryDirectory(prefix="dossier-") as room:
         copy = f"{room}/season.db"
@@ -100,7 +104,7 @@ def of_store(call, store):
     return ended(text) + b"[requests]\n" + script + b"[published]\n" + published(output)
 
 
-def is_store(path):
+def is_store(path: str) -> bool:
     with open(path, "rb") as it:
         return it.read(16) == b"SQLite format 3\0"
 
@@ -108,7 +112,7 @@ def is_store(path):
 # ---- a special round
 
 
-def with_special(dossier, lists, wrote):
+def with_special(dossier: bytes, lists: bytes, wrote: bytes) -> bytes:
     """Returns a dossier with a special round behind it: the lists that `special lists` was given, and the round and the lists that it wrote."""
     return ended(dossier) + b"[lists]\n" + ended(lists) + b"[special]\n" + published(wrote)
 
@@ -116,20 +120,21 @@ def with_special(dossier, lists, wrote):
 # ---- tokens
 
 
-def written(rows_of_section):
+def written(rows_of_section: Iterable[list[str]]) -> bytes:
     """Returns rows as the bytes of a section."""
     out = io.StringIO(newline="")
     csv.writer(out, lineterminator="\n").writerows(rows_of_section)
     return out.getvalue().encode()
 
 
-def fresh():
+def fresh() -> str:
     return secrets.token_hex(TOKEN.most // 2)
 
 
-def without_tokens(dossier):
+def without_tokens(dossier: bytes) -> bytes:
     """Returns the dossier with a fresh token in the place of each; the rows of all other sections keep their bytes."""
     bundle, rest, _ = split_at(dossier, "requests")
+    assert rest is not None, "a dossier has a line [requests]"
     found, at = sections(bundle), HEADERS["register"].index("token")
     season = [[row[0], fresh(), *row[2:]] if row[0] == "clerk" else row for row in rows(found["season"].body)]
     header, *people = rows(found["register"].body)

@@ -1,7 +1,7 @@
 """The limits, words and spellings of docs/FORMATS.md that the tools use. checks/tools compares them with that page.
 
 Nothing here is proved. The office itself looks at every input, and has the last word."""
-from typing import NamedTuple
+from typing import Iterable, NamedTuple
 
 # ---- limits, as the table of all limits has them
 
@@ -14,10 +14,10 @@ class Limit(NamedTuple):
     least: int
     most: int
 
-    def range(self):
+    def range(self) -> str:
         return f"{self.least:,} to {self.most:,}"
 
-    def has(self, number):
+    def has(self, number: int) -> bool:
         return self.least <= number <= self.most
 
 
@@ -52,12 +52,12 @@ STEPS = ("OPEN", "EWS", "OBC", "SC", "ST")
 OTHER_WORDS = {"GEN-EWS": "EWS", "OBC-NCL": "OBC"}
 ANSWERS = ("freeze", "float", "slide", "withdraw")
 MERIT_LISTS = tuple(f"m{it}" for it in range(LISTS.least, LISTS.most + 1))
-HEADERS = {
+HEADERS: dict[str, tuple[str, ...]] = {
     "register": ("id", "category", "traits", "token", *MERIT_LISTS),
     "matrix": ("programme", "institute", "list", "step", "seats", *TRAITS),
     "choices": ("candidate", "programmes"),
 }
-REQUESTS = {
+REQUESTS: dict[str, tuple[str, ...]] = {
     "answer": ("CAND", "WINDOW", "TURN", "CHOICE"),
     "cut": ("WINDOW",),
     "raise": ("WINDOW", "PROG", "STEP", "SEATS"),
@@ -75,7 +75,7 @@ REQUESTS = {
 # ---- what is allowed, in a sentence each
 
 
-def listed(words, last="or"):
+def listed(words: Iterable[str], last: str = "or") -> str:
     """Joins words for a sentence: A, B or C."""
     words = [*words]
     return words[0] if len(words) == 1 else f"{', '.join(words[:-1])} {last} {words[-1]}"
