@@ -30,7 +30,7 @@ class Columns(NamedTuple):
     def fields(self, number: int) -> List[str]:
         return self.of.get(number, [""] * len(self.names))
 
-    def missing(self, numbers) -> List[int]:
+    def missing(self, numbers: Iterable[int]) -> List[int]:
         return [it for it in numbers if it not in self.of]
 
 
@@ -153,7 +153,7 @@ NAME_ROWS = "a row is `programme,CODE,NAME`, `institute,CODE,NAME`, `short,CODE,
 def names(path: str) -> Names:
     """Returns the names of a file in the form of `announce`, which may name merit lists too."""
     it = table(path, KINDS)
-    found: Dict[tuple, str] = {}
+    found: Dict[Tuple[str, str], str] = {}
     for row, fields in [(it.first, it.header), *it.rows]:
         kind, code, name = [*fields, "", "", ""][:3]
         if kind not in KINDS or not re.fullmatch(KINDS[kind], code):

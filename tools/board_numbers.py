@@ -85,7 +85,7 @@ def put(path: str, value: object) -> None:
     os.replace(f"{path}.part", path)
 
 
-def put_parts(folder: str, people: List[Candidate]) -> dict:
+def put_parts(folder: str, people: List[Candidate]) -> Dict[str, object]:
     """Writes the parts into a folder of their own, and returns the paper that names it. A page that has the paper of before finds its parts until `remove_others`."""
     salt = secrets.token_hex(16)
     found = parts(salt, people)

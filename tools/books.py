@@ -29,7 +29,8 @@ class Sheet(NamedTuple):
 def library(ending: str) -> Any:
     """Returns the library that reads this kind of workbook."""
     module, package = LIBRARIES[ending]
-    for more in ([], [OF_DEBIAN]):
+    places: tuple[list[str], ...] = ([], [OF_DEBIAN])
+    for more in places:
         sys.path += more
         try:
             return importlib.import_module(module)

@@ -3,10 +3,10 @@
 tools/tables, tools/letters and tools/left share it. Nothing here is proved, and nothing here judges an allocation: `./office audit` does that."""
 import csv
 import re
-from typing import Dict, List, NamedTuple, Optional
+from typing import Callable, Dict, List, NamedTuple, Optional, Tuple, Union
 
-from bundles import numbered_rows, sections, split_at, without_special
-from formats import ALLOWED, CATEGORIES, HEADERS, LISTS, NUMBER, OTHER_WORDS, SEATS, TRAITS
+from bundles import Row, Section, numbered_rows, sections, split_at, without_special
+from formats import ALLOWED, CATEGORIES, HEADERS, LISTS, Limit, NUMBER, OTHER_WORDS, SEATS, TRAITS
 from formats import STEPS as STEPS_OF_MATRIX
 
 DE_RESERVED = "D"
@@ -20,6 +20,8 @@ FIRST = re.compile(r"round (\d+) seated (\d+)|final (\d+)|list (\d+) (\S+)")
 ALLOT = re.compile(rf"(?:allot|admit) (\d+) (\S+) ({'|'.join(STEPS)})")
 STEP = re.compile(rf"step ({'|'.join(STEPS)}) seats (\d+) candidates (\d+) admitted (\d+)")
 BELOW = re.compile(rf"(\d+) ([{''.join(TRAITS)}-])")
+# who has which seat, or is admitted in the end: programme and step
+Seats = Dict[int, Tuple[str, str]]
 
 
 class Wrong(Exception):
@@ -69,26 +71,26 @@ class Seat(NamedTuple):
 class Rows:
     """The rows of a section of the dossier; an error names the line, the row, the column and the value."""
 
-    def __init__(self, file: str, name: str, section):
+    def __init__(self, file: str, name: str, section: Section) -> None:
         self.file, self.name, self.section = file, name, section
         try:
             self.rows = numbered_rows(section.body)
         except csv.Error as why:
             raise Wrong(f"{file}, line {section.line} and after it, [{name}]: these are no comma-separated records: {why}") from None
 
-    def wrong(self, row, at: int, allowed: str) -> Wrong:
+    def wrong(self, row: Row, at: int, allowed: str) -> Wrong:
         column = HEADERS.get(self.name, ())[at : at + 1] or (f"field {at + 1}",)
         value = row.fields[at] if at < len(row.fields) else ""
         shown = "(token)" if column[0] == "token" else f"`{value:.60}`" if value else "nothing"
         return Wrong(f"{self.file}, line {self.section.line + row.line}, row {row.number} of [{self.name}], column {column[0]}: {shown}: {allowed}")
 
-    def field(self, row, at: int, allowed: str, is_right) -> str:
+    def field(self, row: Row, at: int, allowed: str, is_right: Callable[[str], object]) -> str:
         value = row.fields[at] if at < len(row.fields) else ""
         if not is_right(value):
             raise self.wrong(row, at, allowed)
         return value
 
-    def number(self, row, at: int, limit, allowed: str) -> int:
+    def number(self, row: Row, at: int, limit: Limit, allowed: str) -> int:
         return int(self.field(row, at, allowed, lambda it: re.fullmatch("[0-9]{1,9}", it) and limit.has(int(it))))
 
 
@@ -123,7 +125,7 @@ def programmes_of(rows: Rows) -> Dict[str, Programme]:
     return found
 
 
-def choices_of(rows: Rows, people, programmes) -> Dict[int, List[str]]:
+def choices_of(rows: Rows, people: Dict[int, Person], programmes: Dict[str, Programme]) -> Dict[int, List[str]]:
     """Returns the choice lists by candidate."""
     found: Dict[int, List[str]] = {}
     for row in rows.rows[1:]:
@@ -156,7 +158,7 @@ class Lines:
     def is_at_end(self) -> bool:
         return self.at >= len(self.lines)
 
-    def taken(self, form, why: str):
+    def taken(self, form: Union[str, re.Pattern[str]], why: str) -> re.Match[str]:
         """Returns the next line as the form matches it, and goes on."""
         found = None if self.is_at_end() else re.fullmatch(form, self.lines[self.at])
         if not found:
@@ -179,10 +181,10 @@ class Papers:
         self.people = people_of(Rows(file, "register", found["register"]))
         self.programmes = programmes_of(Rows(file, "matrix", found["matrix"]))
         self.choices = choices_of(Rows(file, "choices", found["choices"]), self.people, self.programmes)
-        self.seats: List[Dict[int, tuple]] = []
-        self.lists: Dict[tuple, Dict[str, Step]] = {}
-        self.final: Optional[Dict[int, tuple]] = None
-        self.special: Optional[Dict[int, tuple]] = None
+        self.seats: List[Seats] = []
+        self.lists: Dict[Tuple[int, str], Dict[str, Step]] = {}
+        self.final: Optional[Seats] = None
+        self.special: Optional[Seats] = None
         self.read(Lines(file, published, first))
 
     # ---- reading
@@ -199,7 +201,7 @@ class Papers:
         for number, seats in enumerate(self.seats, 1):
             self.agrees(number, seats)
 
-    def take(self, lines: Lines, at: int, number: Optional[str], seats: Dict[int, tuple]) -> None:
+    def take(self, lines: Lines, at: int, number: Optional[str], seats: Seats) -> None:
         if number is None:
             if len(self.seats) != self.rounds:
                 raise lines.wrong(f"the final admissions come after round {self.rounds}", at)
@@ -214,9 +216,9 @@ class Papers:
             raise lines.wrong("the matrix has no programme of this code", at)
         return code
 
-    def text_of(self, lines: Lines, count: int, kind: str, begin: int) -> Dict[int, tuple]:
+    def text_of(self, lines: Lines, count: int, kind: str, begin: int) -> Seats:
         """Returns who has which seat in a round, or is admitted in the end: programme and step."""
-        found: Dict[int, tuple] = {}
+        found: Seats = {}
         word = "admit" if kind == "final" else "allot"
         while not lines.is_at_end() and lines.lines[lines.at].startswith(f"{word} "):
             at = lines.at
@@ -259,7 +261,7 @@ class Papers:
         if twice is not None:
             raise Wrong(f"{file}: candidate {twice} has a final admission, and so no seat of the special round of this season")
 
-    def agrees(self, number: int, seats: Dict[int, tuple]) -> None:
+    def agrees(self, number: int, seats: Seats) -> None:
         """Looks whether a round and its lists name the same people."""
         missing = next((code for code in self.programmes if (number, code) not in self.lists), None)
         if missing:
@@ -277,7 +279,8 @@ class Papers:
 
     def newest(self) -> Optional[str]:
         """Returns the name of the newest text: `special`, `final`, or the number of the last round."""
-        return (self.names() or [None])[-1]
+        names = self.names()
+        return names[-1] if names else None
 
     def names(self) -> List[str]:
         """Returns the names of all texts, the oldest first."""
@@ -310,7 +313,7 @@ class Papers:
 
     # ---- divided programmes
 
-    def unit(self, code: str) -> tuple:
+    def unit(self, code: str) -> Tuple[str, str]:
         """Returns the programme that a code names and its quota: a code is a unit if both units of the programme are in the matrix."""
         for end, quota in QUOTAS.items():
             base = code.removesuffix(end)
@@ -323,7 +326,7 @@ def place_number(place: str) -> int:
     return int(place.rstrip("R") or 0)
 
 
-def parts_of(file: str, data: bytes) -> tuple:
+def parts_of(file: str, data: bytes) -> Tuple[bytes, bytes, bytes, int]:
     """Returns the bundle, the requests and the published texts of a dossier, and the number of the first line of the last."""
     kind = next((it for mark, it in OTHER_FILES.items() if data.startswith(mark)), None)
     if kind:

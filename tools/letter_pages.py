@@ -1,7 +1,7 @@
 """Draws letters of allotment as pages of a PDF, by Pango and cairo, which set names in every script that a font of the machine has."""
 import os
 import sys
-from typing import List, NamedTuple, Tuple
+from typing import Any, List, NamedTuple, Tuple
 
 from dossier_papers import Wrong
 
@@ -26,7 +26,7 @@ class Letter(NamedTuple):
     code: str
 
 
-def libraries():
+def libraries() -> Tuple[Any, Any, Any]:
     """Returns Pango, its drawing part and cairo. If this Python lacks them and Debian's own has them, that one takes the call."""
     try:
         import cairo
@@ -68,7 +68,8 @@ class Pages:
             raise Wrong(f"no font of this machine has all letters of `{text:.60}`: apt-get install fonts-noto-core, or the font of this script")
         self.context.move_to(left, top)
         self.drawing.show_layout(self.context, layout)
-        return top + layout.get_pixel_size()[1]
+        height: float = layout.get_pixel_size()[1]
+        return top + height
 
     def add(self, letter: Letter) -> None:
         """Draws a letter on a page of its own."""

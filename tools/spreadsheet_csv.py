@@ -47,14 +47,14 @@ def fields_of(column: List[str]) -> List[str]:
     return [kept(it) if is_changed(it) or is_code and it.isdecimal() else it for it in column]
 
 
-def written(header: Sequence[str], rows: Iterable[Sequence]) -> List[List[str]]:
+def written(header: Sequence[str], rows: Iterable[Sequence[object]]) -> List[List[str]]:
     """Returns the fields of a table, column by column as a spreadsheet needs them."""
     texts = [["" if it is None else str(it) for it in row] for row in rows]
     columns = [fields_of([row[at] for row in texts]) for at in range(len(header))]
     return [fields_of([*header]), *(list(row) for row in zip(*columns))]
 
 
-def text(header: Sequence[str], rows: Iterable[Sequence]) -> str:
+def text(header: Sequence[str], rows: Iterable[Sequence[object]]) -> str:
     """Returns a table as the text of its file."""
     out = io.StringIO(newline="")
     out.write(MARK)
@@ -62,7 +62,7 @@ def text(header: Sequence[str], rows: Iterable[Sequence]) -> str:
     return out.getvalue()
 
 
-def write(path: str, header: Sequence[str], rows: Iterable[Sequence], is_public: bool = False) -> None:
+def write(path: str, header: Sequence[str], rows: Iterable[Sequence[object]], is_public: bool = False) -> None:
     """Writes a table, whole or not at all. Unless it is public, only its owner may read it."""
     mode = 0o644 if is_public else 0o600
     with open(os.open(f"{path}.part", os.O_CREAT | os.O_WRONLY | os.O_TRUNC, mode), "w", encoding="utf-8", newline="") as it:

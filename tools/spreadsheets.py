@@ -20,6 +20,8 @@ ENDINGS = (".csv", *books.LIBRARIES)
 EXAMPLES, SHOWN = 5, 60
 # rows in which values of columns without a name are looked for
 LOOKED = 1_000
+# a row of a table: its number in the spreadsheet, and its fields
+Row = tuple[int, list[str]]
 
 
 def letters(at: int) -> str:
@@ -46,7 +48,7 @@ def counted(count: int, what: str) -> str:
     return f"{count:,} {what}{'s' * (count != 1)}"
 
 
-def some(items: Iterable, most: int = 10) -> str:
+def some(items: Iterable[object], most: int = 10) -> str:
     """Joins the first items, and says how many more there are."""
     words = [str(it) for it in items]
     return ", ".join(words[:most]) + (f" and {len(words) - most:,} more" if len(words) > most else "")
@@ -83,17 +85,27 @@ class Error(NamedTuple):
         return f"{self.cell.place()}: {self.value}: {self.why}"
 
 
+class Spelling(NamedTuple):
+    """What was read otherwise than it is written: how often, the row where it is first, and an example."""
+
+    times: int
+    first: int
+    example: str
+
+
 class Findings:
     """What the files have: errors, questions that a person has to answer, spellings that were read as others, and remarks."""
 
-    def __init__(self, answered: set) -> None:
-        self.causes: list = []
-        self.files: list = []
-        self.kinds: dict = {}
-        self.questions: dict = {}
-        self.spellings: dict = collections.OrderedDict()
-        self.remarks: list = []
-        self.answered, self.asked = answered, {}
+    def __init__(self, answered: set[str]) -> None:
+        self.causes: list[str] = []
+        self.files: list[str] = []
+        # errors by file and kind, and the fields with a note of each question
+        self.kinds: dict[tuple[str, str], list[Error]] = {}
+        self.questions: dict[str, list[tuple[Cell, str]]] = {}
+        self.spellings: dict[tuple[str, str, str], Spelling] = {}
+        self.remarks: list[str] = []
+        self.answered = answered
+        self.asked: dict[str, str] = {}
 
     def wrong(self, cell: Cell, why: str, secret: bool = False) -> None:
         """Takes an error of one field. The value of a token is never shown."""
@@ -119,10 +131,8 @@ class Findings:
     def read_as(self, cell: Cell, value: object, kind: Optional[str] = None) -> None:
         """Notes that a field was written otherwise than the office spells it."""
         key = (cell.file, cell.column, kind or f"{shown(cell.text)} as {value}")
-        known = self.spellings.get(key)
-        if known is None:
-            self.spellings[key] = known = [0, cell.row, f"{shown(cell.text)} as {value}"]
-        known[0] += 1
+        known = self.spellings.get(key) or Spelling(0, cell.row, f"{shown(cell.text)} as {value}")
+        self.spellings[key] = known._replace(times=known.times + 1)
 
     def count(self) -> int:
         return len(self.files) + sum(map(len, self.kinds.values()))
@@ -131,7 +141,7 @@ class Findings:
         return not self.causes and not self.count() and not self.questions
 
 
-def in_one_line(found: list) -> str:
+def in_one_line(found: list[Error]) -> str:
     """Returns errors of one kind as one line: how many fields, in which rows, with which values, and why."""
     first = found[0].cell
     values = collections.Counter(it.value for it in found)
@@ -147,8 +157,8 @@ def in_one_line(found: list) -> str:
 class Header(NamedTuple):
     """The header of a table: the row or the two rows in which it is, and the name of each column."""
 
-    rows: tuple
-    names: list
+    rows: tuple[int, ...]
+    names: list[str]
 
     def where(self) -> str:
         return f"row {self.rows[0]}" if len(self.rows) == 1 else f"rows {self.rows[0]} and {self.rows[1]}"
@@ -157,10 +167,10 @@ class Header(NamedTuple):
 class Table:
     """A spreadsheet that was read: its rows, and what each of its columns means. A column without a meaning is left out."""
 
-    def __init__(self, file: str, findings: Findings, header: Header, rows: list, means: dict) -> None:
+    def __init__(self, file: str, findings: Findings, header: Header, rows: list[Row], means: dict[str, int]) -> None:
         self.file, self.findings, self.header, self.rows, self.means = file, findings, header, rows, means
         self.left_out = [at for at, name in enumerate(header.names) if name and at not in means.values()]
-        self.columns: dict = {}
+        self.columns: dict[str, tuple[Optional[int], str]] = {}
         # whether the first row names the columns by the tool's own words
         self.is_by_words = False
 
@@ -170,14 +180,14 @@ class Table:
     def name(self, at: int) -> str:
         return self.header.names[at] if at < len(self.header.names) else ""
 
-    def cell(self, number: int, fields: list, meaning: str) -> Cell:
+    def cell(self, number: int, fields: list[str], meaning: str) -> Cell:
         """Returns the field of a row that has a meaning; a column that is missing is empty."""
         known = self.columns.get(meaning)
         if known is None:
             known = self.columns[meaning] = self.column(meaning)
         return self.field(number, fields, *known)
 
-    def column(self, meaning: str) -> tuple:
+    def column(self, meaning: str) -> tuple[Optional[int], str]:
         """Returns the column with a meaning, and how messages call it."""
         at = self.means.get(meaning)
         name = self.name(at) if at is not None else meaning
@@ -185,7 +195,7 @@ class Table:
             name = meaning if name.lower() == meaning.lower() else name.lower()
         return at, name
 
-    def field(self, number: int, fields: list, at: Optional[int], name: str) -> Cell:
+    def field(self, number: int, fields: list[str], at: Optional[int], name: str) -> Cell:
         written = fields[at] if at is not None and at < len(fields) else ""
         text = stripped(written) if written else ""
         cell = Cell(self.file, number, name, at or 0, text)
@@ -193,7 +203,7 @@ class Table:
             self.findings.read_as(cell._replace(text=written), shown(text), "fields with blanks around them")
         return cell
 
-    def tells_left_out(self) -> list:
+    def tells_left_out(self) -> list[str]:
         """Returns the lines of the report on columns that were not read."""
         named = [self.header.names[at] for at in self.left_out]
         lines = [f"{self.file}: left out: {', '.join(named)}"] if named else []
@@ -238,10 +248,10 @@ def text_of(file: str, data: bytes, findings: Findings) -> Optional[str]:
     return data.decode("cp1252", errors="replace")
 
 
-def records(text: str, delimiter: str) -> tuple:
+def records(text: str, delimiter: str) -> tuple[list[list[str]], Optional[int]]:
     """Returns the records of a text, and the number of the first that cannot be read, or None."""
     csv.field_size_limit(sys.maxsize)
-    found = []
+    found: list[list[str]] = []
     try:
         # line by line, because a StringIO would hold four bytes for each letter
         lines = (it[0] for it in re.finditer("[^\r\n]*(?:\r\n|\r|\n)|[^\r\n]+", text))
@@ -252,14 +262,14 @@ def records(text: str, delimiter: str) -> tuple:
     return found, None
 
 
-def delimiter_of(text: str, known: Iterable = ()) -> tuple:
+def delimiter_of(text: str, known: Iterable[str] = ()) -> tuple[str, str]:
     """Returns the sign between the fields, and the text after a line that names it: the one that gives the first rows most known names, and most fields."""
     named = re.match("sep=(.)\r?\n", text)
     if named:
         return named[1], text[named.end() :]
     head = text[:20_000]
 
-    def fields(sign: str) -> tuple:
+    def fields(sign: str) -> tuple[int, int]:
         rows = [row for row in records(head, sign)[0][:20] if any(map(stripped, row))]
         named = {stripped(it).lower() for row in rows[:1] for it in row}
         return len(named & {*known}), sum(sum(map(bool, row)) - 1 for row in rows)
@@ -267,12 +277,12 @@ def delimiter_of(text: str, known: Iterable = ()) -> tuple:
     return max(DELIMITERS, key=fields), text
 
 
-def rows_of_text(file: str, data: bytes, findings: Findings, known: Iterable = ()) -> Optional[list]:
+def rows_of_text(file: str, data: bytes, findings: Findings, known: Iterable[str] = ()) -> Optional[list[list[str]]]:
     """Returns the rows of a file of text, each with its number, or None if it is none."""
-    text = text_of(file, data, findings)
-    if text is None:
+    whole = text_of(file, data, findings)
+    if whole is None:
         return None
-    delimiter, text = delimiter_of(text, known)
+    delimiter, text = delimiter_of(whole, known)
     if delimiter != ",":
         findings.remarks.append(f"{file}: its fields are between {NAMES.get(delimiter, f'signs {delimiter}')}")
     found, bad = records(text, delimiter)
@@ -283,7 +293,7 @@ def rows_of_text(file: str, data: bytes, findings: Findings, known: Iterable = (
     return found
 
 
-def rows_of_book(file: str, path: str, names: list, findings: Findings) -> Optional[list]:
+def rows_of_book(file: str, path: str, names: list[str], findings: Findings) -> Optional[list[list[str]]]:
     """Returns the rows of a sheet of a workbook, or None if it cannot be read."""
     try:
         sheet, others = books.sheet_of(path, os.path.splitext(file)[1], names)
@@ -309,7 +319,7 @@ def file_of(folder: str, stem: str, findings: Findings) -> Optional[str]:
     return None
 
 
-def read(folder: str, file: str, known: Iterable, findings: Findings) -> Optional[list]:
+def read(folder: str, file: str, known: Iterable[str], findings: Findings) -> Optional[list[Row]]:
     """Returns the rows of a named file of text that are not empty, each with its number in the spreadsheet, or None if it cannot be read."""
     try:
         with open(f"{folder}/{file}", "rb") as it:
@@ -320,7 +330,7 @@ def read(folder: str, file: str, known: Iterable, findings: Findings) -> Optiona
     return None if found is None else [(number, fields) for number, fields in enumerate(found, 1) if any(map(stripped, fields))]
 
 
-def read_table(folder: str, stem: str, findings: Findings, known: Iterable = (), sheet: str = "") -> tuple:
+def read_table(folder: str, stem: str, findings: Findings, known: Iterable[str] = (), sheet: str = "") -> tuple[str, Optional[list[Row]]]:
     """Returns the name of the file of a table and its rows that are not empty, each with its number in the spreadsheet; the rows are None if it cannot be read."""
     file = file_of(folder, stem, findings)
     if file is None:
@@ -331,7 +341,7 @@ def read_table(folder: str, stem: str, findings: Findings, known: Iterable = (),
     return file, None if found is None else [(number, fields) for number, fields in enumerate(found, 1) if any(map(stripped, fields))]
 
 
-def tell_lost_letters(file: str, rows: list, findings: Findings) -> None:
+def tell_lost_letters(file: str, rows: list[Row], findings: Findings) -> None:
     """Remarks on fields in which letters were lost when the file was saved: each became a question mark."""
     lost = [(number, field) for number, fields in rows for field in fields if "??" in field or "\ufffd" in field]
     if lost:
@@ -341,7 +351,7 @@ def tell_lost_letters(file: str, rows: list, findings: Findings) -> None:
 # ---- writing
 
 
-def written(rows: Iterable, begin: str = "\ufeff") -> bytes:
+def written(rows: Iterable[Iterable[object]], begin: str = "\ufeff") -> bytes:
     """Returns rows as CSV with a byte order mark, by which a spreadsheet program knows that it is UTF-8."""
     out = io.StringIO(newline="")
     out.write(begin)
