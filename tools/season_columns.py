@@ -8,7 +8,7 @@ from typing import Iterable, NamedTuple, Optional
 
 from formats import CATEGORIES, HEADERS, MERIT_LISTS, NUMBER, TRAITS, listed
 from season_words import is_code
-from spreadsheets import Cell, Findings, Header, Table, letters, read, read_table, stripped, written
+from spreadsheets import Cell, Findings, Header, Row, Table, letters, read, read_table, stripped, written
 
 FILE = "columns.csv"
 HEADING = ("table", "column", "heading", "means", "example")
@@ -34,13 +34,16 @@ LONG = ("candidate", "preference", "programme")
 # rows in which a header is looked for, and rows whose values a guess looks at
 MOST_TITLES, LOOKED = 15, 300
 
+# the exams of the columns with ranks, each with the number of its merit list
+Exams = dict[tuple[str, ...], int]
+
 
 class Plan(NamedTuple):
     """What columns.csv says of one table: the sheet of a workbook, the rows of the header, and its rows on columns as cells: column, heading, meaning."""
 
     sheet: str
-    header: tuple
-    columns: list
+    header: tuple[int, ...]
+    columns: list[list[Cell]]
 
 
 # ---- a guess
@@ -98,13 +101,13 @@ BY_ALL = {"no", "number", "list", "wise", "all", "india", "overall", "common", "
 OF_POOL = {"gender", "neutral", "only", "including", "supernumerary", "seats", "gen", "ncl", "pool"}
 
 
-def numeric(values: list) -> bool:
+def numeric(values: list[str]) -> bool:
     """Returns whether most of the values are numbers, as ranks and seats are written."""
     found = [it for it in values if it]
     return bool(found) and sum(bool(re.fullmatch(r"[0-9][0-9,.]*\s*[rR]?", it)) for it in found) * 2 > len(found)
 
 
-def rank_of(words: set, values: list, exams: dict) -> Optional[str]:
+def rank_of(words: set[str], values: list[str], exams: Exams) -> Optional[str]:
     """Returns which rank a column of the register has, or None if it has none."""
     if words - OF_RANK - set(OF_LIST) - OF_DISABLED - BY_ALL - set(EXAMS) or not (numeric(values) or words & OF_RANK and not any(values)):
         return None
@@ -118,7 +121,7 @@ def rank_of(words: set, values: list, exams: dict) -> Optional[str]:
     return " ".join(filter(None, (name, of, "PwD" if words & OF_DISABLED else "")))
 
 
-def seats_of(words: set, values: list) -> Optional[str]:
+def seats_of(words: set[str], values: list[str]) -> Optional[str]:
     """Returns which seats a column of a wide matrix has, or None if it has none."""
     steps = [OF_LIST[it] for it in ("ews", "obc", "sc", "st") if it in words] or ["OPEN"] * bool(words & {"open", "general", "gen", "ur"})
     female = {"female", "women", "woman", "girls", "w"}
@@ -127,12 +130,12 @@ def seats_of(words: set, values: list) -> Optional[str]:
     return f"{steps[0]}{' W' * bool(words & female)}{' PwD' * bool(words & OF_DISABLED)}"
 
 
-def is_identity(words: set) -> bool:
+def is_identity(words: set[str]) -> bool:
     """Returns whether a heading is of the number by which a board knows its candidates."""
     return words <= OF_PERSON | OF_NUMBER and bool(words & OF_PERSON) or words in ({"id"}, {"number"})
 
 
-def meaning_of(table: str, heading: str, values: list, exams: dict) -> Optional[str]:
+def meaning_of(table: str, heading: str, values: list[str], exams: Exams) -> Optional[str]:
     """Returns what a column may mean by its heading and its values, or None."""
     name = plain(heading)
     if not name or SERIAL.fullmatch(name):
@@ -157,9 +160,10 @@ def meaning_of(table: str, heading: str, values: list, exams: dict) -> Optional[
     return next((it for form, it in FORMS[table] if re.fullmatch(form, name)), None)
 
 
-def meanings(table: str, names: list, rows: list) -> dict:
+def meanings(table: str, names: list[str], rows: list[Row]) -> dict[str, int]:
     """Returns what the columns may mean, each meaning with its first column."""
-    found, exams = {}, {}
+    found: dict[str, int] = {}
+    exams: Exams = {}
     for at, name in enumerate(names):
         values = [stripped(fields[at]) for _, fields in rows[:LOOKED] if at < len(fields)]
         meaning = meaning_of(table, name, values, exams)
@@ -174,7 +178,7 @@ def meanings(table: str, names: list, rows: list) -> dict:
     return found
 
 
-def with_branches(found: dict, rows: list) -> dict:
+def with_branches(found: dict[str, int], rows: list[Row]) -> dict[str, int]:
     """Returns the meanings of a matrix. A code that comes with several institutes is that of a branch, and a programme is an institute's branch."""
     if not {"programme", "institute"} <= found.keys():
         return found
@@ -184,7 +188,7 @@ def with_branches(found: dict, rows: list) -> dict:
     return {"branch" if it == "programme" else it: at for it, at in found.items()}
 
 
-def headings(rows: list, at: int, of_two: bool) -> Optional[Header]:
+def headings(rows: list[Row], at: int, of_two: bool) -> Optional[Header]:
     """Returns the header that a row, or a row and the one below it, would be, or None if they cannot be one."""
     number, fields = rows[at]
     names = [stripped(it) for it in fields]
@@ -195,24 +199,26 @@ def headings(rows: list, at: int, of_two: bool) -> Optional[Header]:
     other, below = rows[at + 1][0], [stripped(it) for it in rows[at + 1][1]]
     if any(re.fullmatch(r"[0-9][0-9,.]*", it) for it in below):
         return None
-    size, above, made = max(len(names), len(below)), "", []
-    for column in range(size):
+    above = ""
+    made: list[str] = []
+    for column in range(max(len(names), len(below))):
         upper, lower = ((it[column] if column < len(it) else "") for it in (names, below))
         above = upper or (above if lower else "")
         made.append(" ".join(filter(None, (above, lower))))
     return Header((number, other), made)
 
 
-def worth(table: str, found: dict) -> int:
+def worth(table: str, found: dict[str, int]) -> int:
     """Returns how much of what a table needs is found."""
     needs = {"register": ("category",), "matrix": (), "choices": ("candidate",)}[table]
     more = {"register": ("number", "application number"), "matrix": ("programme", "programme name", "branch"), "choices": ("programme", "programmes", "choice 1")}[table]
     return len(found) + 3 * sum(it in found for it in needs) + 3 * any(it in found for it in more)
 
 
-def guess(table: str, rows: list) -> tuple:
+def guess(table: str, rows: list[Row]) -> tuple[Header, dict[str, int]]:
     """Returns the header of a sheet and what its columns may mean."""
-    best, most = None, 0
+    best: Optional[tuple[Header, dict[str, int]]] = None
+    most = 0
     for at in range(min(MOST_TITLES, len(rows))):
         for of_two in (False, True):
             header = headings(rows, at, of_two)
@@ -228,7 +234,7 @@ def guess(table: str, rows: list) -> tuple:
 # ---- what is still missing
 
 
-def lacking(table: str, found: Iterable) -> list:
+def lacking(table: str, found: Iterable[str]) -> list[str]:
     """Returns what a table needs and does not have, in words."""
     has = {*found}
     if table == "register":
@@ -247,7 +253,7 @@ def lacking(table: str, found: Iterable) -> list:
 # ---- columns.csv
 
 
-def rows_of_guess(table: str, file: str, header: Header, found: dict, rows: list) -> Iterable:
+def rows_of_guess(table: str, file: str, header: Header, found: dict[str, int], rows: list[Row]) -> Iterable[list[str]]:
     """Gives the rows of columns.csv that a guess makes of a table."""
     yield [table, "header", " and ".join(map(str, header.rows)), "", f"the rows of {file} that name its columns"]
     means = {at: meaning for meaning, at in found.items()}
@@ -259,11 +265,11 @@ def rows_of_guess(table: str, file: str, header: Header, found: dict, rows: list
             yield [table, letters(at), name, means.get(at, LEFT_OUT), "" if means.get(at) == "token" else example[:40]]
 
 
-def read_plans(folder: str, findings: Findings) -> dict:
+def read_plans(folder: str, findings: Findings) -> dict[str, Plan]:
     """Returns the plans of columns.csv by their tables; none if there is no such file."""
     if not os.path.exists(f"{folder}/{FILE}"):
         return {}
-    plans: dict = {}
+    plans: dict[str, Plan] = {}
     for row, fields in (read(folder, FILE, HEADING, findings) or [])[1:]:
         cells = [Cell(FILE, row, name, at, stripped(fields[at]) if at < len(fields) else "") for at, name in enumerate(HEADING)]
         table = cells[0].text.lower()
@@ -285,7 +291,7 @@ def refuse(cell: Cell, why: str, findings: Findings) -> None:
     findings.causes.append(f"{cell.place()}: {cell.value()}: {why}")
 
 
-def header_rows(cell: Cell, findings: Findings) -> tuple:
+def header_rows(cell: Cell, findings: Findings) -> tuple[int, ...]:
     found = tuple(map(int, re.findall("[0-9]+", cell.text)))
     if not (1 <= len(found) <= 2 and re.fullmatch(r"[0-9]+(\.0+)?(\s*(and|-|,|&|to)\s*[0-9]+)?", cell.text) and found == tuple(range(found[0], found[0] + len(found)))):
         refuse(cell, "the header is in one row, such as 3, or in two that follow each other, such as 3 and 4", findings)
@@ -306,23 +312,23 @@ def meaning_in(table: str, cell: Cell, findings: Findings) -> str:
     return found
 
 
-def shortly(table: str) -> list:
+def shortly(table: str) -> list[str]:
     """Returns the meanings of a table as tools/README.md lists them: ranks and seats by their form."""
     plainly = [it for it in MEANINGS[table] if it not in RANKS and it not in WIDE]
     forms = {"register": ["m1 OBC, m1 category, m1 PwD and so on"], "matrix": ["OPEN, OPEN PwD, EWS W and so on"], "choices": ["choice 1, choice 2 and so on"]}
     return plainly + forms[table]
 
 
-def by_plan(table: str, file: str, rows: list, plan: Plan, findings: Findings) -> Optional[Table]:
+def by_plan(table: str, file: str, rows: list[Row], plan: Plan, findings: Findings) -> Optional[Table]:
     """Returns a sheet as columns.csv says that it is, or None if it is otherwise."""
     at = next((at for at, (number, _) in enumerate(rows) if (number,) == plan.header[:1]), None)
     header = headings(rows, at, len(plan.header) == 2) if at is not None else None
     if header is None and not plan.header and findings.causes:
         return None
-    if header is None:
+    if header is None or at is None:
         findings.wrong_form(FILE, f"{table}: the header is in {listed([f'row {it}' for it in plan.header], 'and') if plan.header else 'no row'}, and {file} has none there; remove the rows of {table} from {FILE} for a new guess")
         return None
-    means: dict = {}
+    means: dict[str, int] = {}
     before = len(findings.causes)
     for cells in plan.columns:
         column = column_of(header, cells)
@@ -345,7 +351,7 @@ def by_plan(table: str, file: str, rows: list, plan: Plan, findings: Findings) -
     return None if missing else Table(file, findings, header, rows[at + len(plan.header) :], means)
 
 
-def column_of(header: Header, cells: list) -> Optional[int]:
+def column_of(header: Header, cells: list[Cell]) -> Optional[int]:
     """Returns the column that a row of columns.csv is for: by its heading, and by its letters if several have it."""
     found = [at for at, name in enumerate(header.names) if " ".join(name.split()) == " ".join(cells[2].text.split())]
     return next((it for it in found if letters(it) == cells[1].text.upper()), found[0] if len(found) == 1 else None)
@@ -354,7 +360,7 @@ def column_of(header: Header, cells: list) -> Optional[int]:
 # ---- tables by their own words
 
 
-def by_words(table: str, file: str, rows: list, findings: Findings) -> Optional[Table]:
+def by_words(table: str, file: str, rows: list[Row], findings: Findings) -> Optional[Table]:
     """Returns a sheet whose first row names its columns by the tool's own words, or None if it does not."""
     names = [stripped(it) for it in rows[0][1]]
     lower = [it.lower().replace("_", " ") for it in names]
@@ -385,15 +391,15 @@ class Guess(NamedTuple):
     table: str
     file: str
     header: Header
-    found: dict
-    rows: list
+    found: dict[str, int]
+    rows: list[Row]
 
 
-def tables(folder: str, findings: Findings) -> tuple:
+def tables(folder: str, findings: Findings) -> tuple[dict[str, Optional[Table]], list[Guess]]:
     """Returns the tables of a folder by their names, and the guesses for those that nobody has confirmed."""
     plans = read_plans(folder, findings)
-    found: dict = {}
-    guesses = []
+    found: dict[str, Optional[Table]] = {}
+    guesses: list[Guess] = []
     for table in MEANINGS:
         plan = plans.get(table)
         file, rows = read_table(folder, table, findings, OWN[table], plan.sheet if plan else "")
@@ -410,7 +416,7 @@ def tables(folder: str, findings: Findings) -> tuple:
     return found, guesses
 
 
-def guess_of(table: str, file: str, rows: list, findings: Findings) -> list:
+def guess_of(table: str, file: str, rows: list[Row], findings: Findings) -> list[Guess]:
     """Returns the guess for a sheet. A sheet of which no row names columns has none: the row may be a person's, so nothing of it is shown."""
     header, found = guess(table, rows)
     if len(found) < 2:
@@ -420,14 +426,14 @@ def guess_of(table: str, file: str, rows: list, findings: Findings) -> list:
     return [Guess(table, file, header, found, rows)]
 
 
-def written_guess(folder: str, guesses: list) -> bytes:
+def written_guess(folder: str, guesses: list[Guess]) -> bytes:
     """Returns columns.csv with its rows so far and those of the guesses."""
     before = read(folder, FILE, HEADING, Findings(set())) if os.path.exists(f"{folder}/{FILE}") else None
-    kept = [fields for _, fields in before or [(1, HEADING)]]
+    kept = [fields for _, fields in before or [(1, [*HEADING])]]
     return written([*kept, *(row for it in guesses for row in rows_of_guess(it.table, it.file, it.header, it.found, it.rows))])
 
 
-def tells_guess(it: Guess) -> list:
+def tells_guess(it: Guess) -> list[str]:
     """Returns the lines of the report on a guess."""
     named = [f"{it.header.names[at]} is {meaning}" for meaning, at in sorted(it.found.items(), key=lambda pair: pair[1])]
     lines = [f"{it.file}: {it.header.where()} may be the header: {'; '.join(named)}"] if named else [f"{it.file}: no row names its columns in words that the tool knows"]

@@ -17,8 +17,8 @@ class Kept:
     """The tokens and the numbers that an earlier call gave."""
 
     def __init__(self, path: str, findings: Findings) -> None:
-        self.tokens: dict = {}
-        self.numbers: dict = {}
+        self.tokens: dict[str, str] = {}
+        self.numbers: dict[str, int] = {}
         folder, file = os.path.split(path)
         near = [it for it in sorted(os.listdir(folder or ".")) if os.path.splitext(it)[0].lower() == os.path.splitext(file)[0].lower() and it != file]
         if os.path.exists(path):
@@ -44,7 +44,7 @@ class Kept:
         if names[:2] != ["candidate", "token"]:
             findings.causes.append(f"{file}: row {rows[0][0]}: the first columns are candidate and token. {NO_TOKENS}")
 
-    def take(self, row: dict, file: str, number: int, findings: Findings) -> None:
+    def take(self, row: dict[str, str], file: str, number: int, findings: Findings) -> None:
         name, token = re.sub(r"\.0+$", "", row.get("candidate", "")), row.get("token", "")
         is_ours = name == "clerk" or re.fullmatch("[0-9]+", name) and NUMBER.has(int(name))
         if not is_ours or not re.fullmatch("[A-Za-z0-9]+", token) or not TOKEN.has(len(token)):
@@ -69,7 +69,7 @@ def new_token(name: str) -> str:
             return made
 
 
-def fill_tokens(season: Any, register: Any, given: Any, kept: Kept) -> dict:
+def fill_tokens(season: Any, register: Any, given: Any, kept: Kept) -> dict[str, int]:
     """Gives a token to everyone who has none, and returns how many were given, kept and made."""
     counts, used = {"given": 0, "kept": 0, "made": 0}, {*given.rows}
 
@@ -92,14 +92,14 @@ def write_tokens(path: str, season: Any, register: Any) -> None:
     table = register.table
     extra = [(at, table.name(at)) for at in table.left_out]
     fields = dict(table.rows)
-    rows: list = [[*TOKENS, *(name for _, name in extra)], ["clerk", season.clerk]]
+    rows: list[list[object]] = [[*TOKENS, *(name for _, name in extra)], ["clerk", season.clerk]]
     for id, one in register.people.items():
         row = fields[one.row]
         rows.append([id, one.token, id, one.application, one.name, *(row[at] if at < len(row) else "" for at, _ in extra)])
     put_file(path, written(rows))
 
 
-def names_of(matrix: Any) -> list:
+def names_of(matrix: Any) -> list[list[str]]:
     """Returns the rows of the file that `deploy/announce FOLDER names` reads: the names of institutes and programmes."""
     rows = [["institute", code, " ".join(name.split())[:200]] for code, name in matrix.institutes.items()]
     for code, name in matrix.titles.items():
@@ -108,7 +108,7 @@ def names_of(matrix: Any) -> list:
     return rows
 
 
-def write_names(path: str, matrix: Any, ranks: list) -> str:
+def write_names(path: str, matrix: Any, ranks: list[list[str]]) -> str:
     """Writes the names of codes and of the lists of ranks, if there are some. Names that the file has already stay, unless their ranks begin elsewhere now. Returns a line
     for the report."""
     rows = [*names_of(matrix), *ranks]

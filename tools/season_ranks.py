@@ -7,7 +7,7 @@ from typing import Any, Iterable, NamedTuple, Optional
 
 from formats import CATEGORIES, PLACE
 from season_words import number
-from spreadsheets import Cell, Findings, counted
+from spreadsheets import Cell, Findings, Table, counted
 
 VERTICAL = tuple(it for it in CATEGORIES if it != "GEN")
 # the lists behind the common one, in the order of their places; those behind the first four are relaxed ones too, and the last is common
@@ -22,9 +22,9 @@ class Ranked(NamedTuple):
     """A candidate of a merit list: the ranks by their lists, each with its field, and the columns of ranks that cannot be read. The common list is the list ``."""
 
     one: Any
-    ranks: dict
-    cells: dict
-    unread: set
+    ranks: dict[str, int]
+    cells: dict[str, Cell]
+    unread: set[str]
 
     def first(self) -> Optional[str]:
         """Returns the list that decides the place."""
@@ -32,12 +32,12 @@ class Ranked(NamedTuple):
         return next((it for it in ("", of, "PwD", f"{of} PwD") if it in self.ranks), None)
 
 
-def lists_of(name: str, table: Any) -> dict:
+def lists_of(name: str, table: Table) -> dict[str, str]:
     """Returns the meanings of a table that are ranks of a merit list, each with the list: `` is the common one."""
     return {it: it.removeprefix(name).strip() for it in table.means if it == name or it.startswith(f"{name} ")}
 
 
-def read_ranks(one: Any, merit: str, cells: dict, findings: Findings) -> Ranked:
+def read_ranks(one: Any, merit: str, cells: dict[str, Cell], findings: Findings) -> Ranked:
     """Returns the ranks of a candidate, from fields by their lists. A rank in the list of another category is wrong."""
     found = Ranked(one, {}, {}, set())
     for of, cell in cells.items():
@@ -64,9 +64,9 @@ def read_ranks(one: Any, merit: str, cells: dict, findings: Findings) -> Ranked:
     return found
 
 
-def looks_at_repeats(people: Iterable, findings: Findings) -> None:
+def looks_at_repeats(people: Iterable[Ranked], findings: Findings) -> None:
     """Reports two candidates with one rank in one list."""
-    taken: dict = {}
+    taken: dict[tuple[str, int], Any] = {}
     for it in people:
         for of, rank in it.ranks.items():
             other = taken.setdefault((of, rank), it.one)
@@ -74,7 +74,7 @@ def looks_at_repeats(people: Iterable, findings: Findings) -> None:
                 findings.wrong(it.cells[of], f"row {other.row} ({other.called()}) has this place too; in one list all places differ")
 
 
-def looks_at_order(people: list, findings: Findings) -> None:
+def looks_at_order(people: list[Ranked], findings: Findings) -> None:
     """Asks if the list of a category has another order than the common list, or ranks somebody without a common rank before somebody with one. Who has a rank that
     could not be read is left out, because that error is reported already."""
     for of in BEHIND:
@@ -86,11 +86,11 @@ def looks_at_order(people: list, findings: Findings) -> None:
                 findings.doubts("order", ASKS_ORDER, other.cells[of], note)
 
 
-def begins(people: list) -> Optional[dict]:
+def begins(people: list[Ranked]) -> Optional[dict[str, int]]:
     """Returns the number behind which the places of each list are, or None if they do not fit: a thousand, ten thousand and so on, so that a rank can be read off."""
     used = [of for of in BEHIND if any(it.first() == of for it in people)]
     common = max((it.ranks[""] for it in people if "" in it.ranks), default=0)
-    behind = max((it.ranks[it.first()] for it in people if it.first() in used), default=0)
+    behind = max((it.ranks[of] for it in people for of in used if it.first() == of), default=0)
     if not used:
         return {}
     for unit in (*(10**at for at in range(3, 7)), *range(100_000, 5_000_000, 100_000)):
@@ -100,7 +100,7 @@ def begins(people: list) -> Optional[dict]:
     return None
 
 
-def give_places(name: str, people: list, findings: Findings, file: str) -> list:
+def give_places(name: str, people: list[Ranked], findings: Findings, file: str) -> list[str]:
     """Gives each candidate the place in a merit list that their ranks make, and returns the lines of the report on them."""
     looks_at_repeats(people, findings)
     looks_at_order(people, findings)
@@ -108,7 +108,7 @@ def give_places(name: str, people: list, findings: Findings, file: str) -> list:
     if first is None:
         findings.wrong_file(file, f"the ranks of {name} are too large to be put behind each other: the places of a merit list are {PLACE.range()}")
         return []
-    counts: dict = {}
+    counts: dict[str, int] = {}
     for it in people:
         of = it.first()
         if of is None:
@@ -120,7 +120,7 @@ def give_places(name: str, people: list, findings: Findings, file: str) -> list:
     return [*lines(name, counts, first, heading(people))]
 
 
-def rank_rows(number: int, people: list) -> list:
+def rank_rows(number: int, people: list[Ranked]) -> list[list[str]]:
     """Returns the rows of names.csv that say behind which place of a merit list the places are ranks in which list, R for relaxed ones; no row where there is one list alone."""
     columns, first = heading(people), begins(people)
     if not first:
@@ -129,16 +129,16 @@ def rank_rows(number: int, people: list) -> list:
     return [*common, *(["rank", f"{number}-{place}{'' if of == 'PwD' else 'R'}", columns[of]] for of, place in first.items())]
 
 
-def heading(people: list) -> dict:
+def heading(people: list[Ranked]) -> dict[str, str]:
     """Returns the column of each list, as the sheet calls it."""
-    found: dict = {}
+    found: dict[str, str] = {}
     for it in people:
         for of, cell in it.cells.items():
             found.setdefault(of, cell.column)
     return found
 
 
-def lines(name: str, counts: dict, first: dict, columns: dict) -> Iterable:
+def lines(name: str, counts: dict[str, int], first: dict[str, int], columns: dict[str, str]) -> Iterable[str]:
     """Gives the lines of the report: how a rank becomes a place."""
     yield f"places in {name}: the rank in `{columns.get('', 'the common list')}`, {counted(counts.get('', 0), 'candidate')}"
     for of in BEHIND:
@@ -147,10 +147,6 @@ def lines(name: str, counts: dict, first: dict, columns: dict) -> Iterable:
             yield f"    without that rank: {first[of]:,} and the rank in `{columns[of]}`, {counted(counts[of], 'candidate')}: {kind}"
 
 
-def cells_of(table: Any, number_of_row: int, fields: list, name: str) -> dict:
+def cells_of(table: Table, number_of_row: int, fields: list[str], name: str) -> dict[str, Cell]:
     """Returns the fields of a row that have ranks of a merit list, by their lists."""
-    found: dict = {}
-    for meaning, of in lists_of(name, table).items():
-        cell: Cell = table.cell(number_of_row, fields, meaning)
-        found[of] = cell
-    return found
+    return {of: table.cell(number_of_row, fields, meaning) for meaning, of in lists_of(name, table).items()}

@@ -11,7 +11,7 @@ SHOWN, OF_QUESTION = 5, 20
 # ---- a refusal
 
 
-def refusal(findings: Findings, left_out: list, whole: bool) -> Iterable:
+def refusal(findings: Findings, left_out: list[str], whole: bool) -> Iterable[str]:
     """Gives the lines on why there is no bundle. Errors that others may follow from come first, and alone unless all are asked for."""
     yield from (*findings.causes, *findings.remarks, *left_out)
     if whole or not findings.causes:
@@ -27,7 +27,7 @@ def refusal(findings: Findings, left_out: list, whole: bool) -> Iterable:
         yield f"{counted(len(findings.causes), 'error')}: no bundle was written"
 
 
-def errors(findings: Findings, whole: bool) -> Iterable:
+def errors(findings: Findings, whole: bool) -> Iterable[str]:
     """Gives the errors: many of one kind in one line."""
     yield from findings.files
     for found in findings.kinds.values():
@@ -37,7 +37,7 @@ def errors(findings: Findings, whole: bool) -> Iterable:
             yield in_one_line(found)
 
 
-def questions(findings: Findings, whole: bool) -> Iterable:
+def questions(findings: Findings, whole: bool) -> Iterable[str]:
     """Gives the open questions with the words that answer them."""
     for name, cells in findings.questions.items():
         yield f"question {name}: {findings.asked[name]} Change the fields, or answer yes with --yes={name}"
@@ -50,9 +50,9 @@ def questions(findings: Findings, whole: bool) -> Iterable:
 # ---- a bundle
 
 
-def seats_lines(matrix: Any) -> list:
+def seats_lines(matrix: Any) -> list[str]:
     """Returns the seats by programme and step, as a table."""
-    rows: list = [("programme", "institute", "list", *STEPS, "all")]
+    rows: list[tuple[Any, ...]] = [("programme", "institute", "list", *STEPS, "all")]
     for name, it in matrix.programmes.items():
         counts = [it.steps.get(step, (0, 0))[1] for step in STEPS]
         rows.append((name, it.institute, it.merit, *counts, sum(counts)))
@@ -68,7 +68,7 @@ def protected_line(matrix: Any) -> str:
     return f"protected seats among them: {', '.join(found) or 'none'}"
 
 
-def people_lines(register: Any) -> Iterable:
+def people_lines(register: Any) -> Iterable[str]:
     """Gives how many candidates have which category and trait, in words."""
     people = register.people.values()
     for name, words in CATEGORIES.items():
@@ -79,7 +79,7 @@ def people_lines(register: Any) -> Iterable:
             yield f"{letter}: {words}, {counted(count, 'candidate')}"
 
 
-def units_lines(register: Any, matrix: Any) -> Iterable:
+def units_lines(register: Any, matrix: Any) -> Iterable[str]:
     """Gives which programmes are divided by state, and how many candidates have which of these states."""
     people = [it for it in register.people.values() if it.state]
     if not matrix.units:
@@ -93,7 +93,7 @@ def units_lines(register: Any, matrix: Any) -> Iterable:
     yield f"candidates by state: {', '.join(found)}, {len(people) - sum(counts.values())} of other states, {without} without a state"
 
 
-def odd_lines(read: Any) -> Iterable:
+def odd_lines(read: Any) -> Iterable[str]:
     """Gives what no rule forbids, and a clerk may not have meant."""
     people, lists = read.register.people, read.choices.lists
     for what, found in (("without a place in any list", [it for it in people.values() if not it.places]), ("without choices", [it for id, it in people.items() if not lists.get(id)])):
@@ -104,7 +104,7 @@ def odd_lines(read: Any) -> Iterable:
     if unlisted:
         yield f"programmes that nobody lists: {len(unlisted)}: {some(unlisted)}"
     for what, codes in (("programmes", read.matrix.programmes), ("institutes", {it.institute for it in read.matrix.programmes.values()})):
-        by_letters: dict = {}
+        by_letters: dict[str, list[str]] = {}
         for it in sorted(codes):
             by_letters.setdefault(it.lower(), []).append(it)
         for alike in by_letters.values():
@@ -112,7 +112,7 @@ def odd_lines(read: Any) -> Iterable:
                 yield f"codes of {what} that differ only in case: {', '.join(alike)}"
 
 
-def spelling_lines(findings: Findings) -> Iterable:
+def spelling_lines(findings: Findings) -> Iterable[str]:
     """Gives what was read otherwise than it is written."""
     for (file, column, kind), (count, first, example) in findings.spellings.items():
         where = f"{file}, column {column}" if column else file
@@ -120,7 +120,7 @@ def spelling_lines(findings: Findings) -> Iterable:
         yield f"{where}: read {text}, {count} time{'s' * (count > 1)}, first in row {first}"
 
 
-def report(read: Any, findings: Findings, counts: dict, papers: list, path: str) -> Iterable:
+def report(read: Any, findings: Findings, counts: dict[str, int], papers: list[str], path: str) -> Iterable[str]:
     """Gives the lines on a bundle that was written."""
     season, register, matrix = read.season, read.register, read.matrix
     yield f"version {season.version} of the rules, rounds: {season.rounds}, candidates: {len(register.people)}, programmes: {len(matrix.programmes)}"

@@ -10,12 +10,14 @@ from spreadsheets import Cell, Findings, Table, counted
 ASKS_MERGED = "these fields are empty, as a spreadsheet program saves cells that are merged: does the text above them count?"
 ASKS_APART = "are the seats in the columns for persons with disabilities apart from those of their category, as JoSAA counts them? If they are among them, give the matrix a column with the total of each row."
 ASKS_WOMEN_D = "the office has no seats for women with disabilities alone: shall these seats be protected for D, persons with disabilities of any gender?"
+# the fields of a row by what their columns mean
+Cells = dict[str, Cell]
 SUPPORTS = ("of", "and", "the", "in", "for", "with", "at", "on")
 # a unit's code has three signs more
 OF_DIVIDED = CODE.most - 3
 
 
-def width_of(codes: list) -> tuple:
+def width_of(codes: list[str]) -> tuple[int, str]:
     """Returns how many digits codes of digits may have had before their zeros were lost, and why; 0 if nothing speaks for lost zeros, as in 1, 2, 3 and so on."""
     padded = [len(it) for it in codes if re.fullmatch("0[0-9]+", it)]
     if padded:
@@ -32,8 +34,9 @@ class Programme:
 
     def __init__(self, row: int, institute: Optional[str], merit: Optional[int]) -> None:
         self.row, self.institute, self.merit = row, institute, merit
-        self.steps: dict = {}
-        self.names: tuple = ("", "")
+        # by step its row and its seats, or while pools are not joined the field and the seats of each pool
+        self.steps: dict[str, Any] = {}
+        self.names = ("", "")
 
 
 class Seats(NamedTuple):
@@ -52,8 +55,8 @@ class Codes:
     """Makes codes of the names of institutes and programmes, each of the first letters of its words: the same names give the same codes."""
 
     def __init__(self) -> None:
-        self.made: dict = {}
-        self.used: set = set()
+        self.made: dict[tuple[Optional[str], str], str] = {}
+        self.used: set[str] = set()
 
     @staticmethod
     def letters(name: str, most: int, otherwise: str) -> str:
@@ -62,7 +65,7 @@ class Codes:
         found = words[0][:4] if len(words) == 1 else "".join(it if it.isupper() and len(it) <= 4 else it[0] for it in words)
         return found.upper()[:most] or otherwise
 
-    def code(self, key: tuple, begin: str, name: str, most: int, otherwise: str) -> str:
+    def code(self, key: tuple[Optional[str], str], begin: str, name: str, most: int, otherwise: str) -> str:
         """Returns the code of a name; one that another name has gets a number behind it."""
         if key not in self.made:
             stem, number_behind = self.letters(name, most, otherwise), 2
@@ -82,21 +85,30 @@ class Matrix:
 
     def __init__(self, table: Optional[Table], findings: Findings, register: Any) -> None:
         self.findings, self.table, self.register = findings, table, register
-        self.programmes: dict = {}
-        self.units: dict = {}
-        self.rows: list = []
-        self.refused: set = set()
-        self.by_letters: dict = {}
-        self.words: dict = {}
-        self.institutes: dict = {}
-        self.titles: dict = {}
-        self.remarks: list = []
-        self.codes, self.wide, self.above = Codes(), {}, {}
-        self.homes: dict = {}
-        self.by_choice: Optional[dict] = None
+        self.programmes: dict[str, Programme] = {}
+        self.units: dict[str, Optional[str]] = {}
+        # programme, institute, merit list, step, seats, and the protected seats by trait
+        self.rows: list[tuple[Any, ...]] = []
+        self.refused: set[str] = set()
+        self.by_letters: dict[str, str] = {}
+        self.words: dict[str, dict[str, None]] = {}
+        self.institutes: dict[str, str] = {}
+        self.titles: dict[str, str] = {}
+        self.remarks: list[str] = []
+        self.codes = Codes()
+        self.wide: dict[str, tuple[bool, Cell]] = {}
+        self.above: dict[str, str] = {}
+        self.homes: Cells = {}
+        self.by_choice: Optional[dict[str, Programme]] = None
         self.is_read = table is not None
         if table:
             self.read(table)
+
+    @property
+    def sheet(self) -> Table:
+        """Returns the table. Whoever asks knows that there is one."""
+        assert self.table is not None
+        return self.table
 
     def read(self, table: Table) -> None:
         """Takes the rows, and looks at what only all of them show."""
@@ -124,7 +136,7 @@ class Matrix:
             if not self.register.has_list(merit):
                 self.findings.wrong_form(self.register.file, f"there is no column m{merit}, and {table.file} has programmes with merit list {merit}")
 
-    def is_sum(self, row: int, cells: dict) -> bool:
+    def is_sum(self, row: int, cells: Cells) -> bool:
         """Returns whether a row is the sum below a matrix."""
         names = [bare(it.text) for meaning, it in cells.items() if meaning in ("programme", "programme name", "branch", "institute", "institute name") and it.text]
         found = bool(names) and all(re.fullmatch("(grand|sub|over)?(all)?total(seats)?", it) for it in names)
@@ -132,13 +144,13 @@ class Matrix:
             self.remarks.append(f"{cells['programme'].file}: row {row} is left out, because it has a total")
         return found
 
-    def filled(self, cells: dict) -> dict:
+    def filled(self, cells: Cells) -> Cells:
         """Returns the fields with the names of the row above where they are empty, as in merged cells, if a person agrees."""
-        if self.table.is_by_words:
+        if self.sheet.is_by_words:
             return cells
         for meaning in ("institute", "institute name", "programme", "programme name", "branch", "home"):
             cell = cells.get(meaning)
-            if cell is None or not self.table.has(meaning):
+            if cell is None or not self.sheet.has(meaning):
                 continue
             if cell.text:
                 self.above[meaning] = cell.text
@@ -149,10 +161,10 @@ class Matrix:
 
     # ---- names and codes
 
-    def institute_of(self, cells: dict) -> Optional[str]:
+    def institute_of(self, cells: Cells) -> Optional[str]:
         """Returns the code of the institute of a row, or None."""
         name = cells.get("institute name")
-        if self.table.has("institute"):
+        if self.sheet.has("institute"):
             found = code(cells["institute"], self.findings)
         elif name and not name.text:
             self.findings.wrong(name, "every row has the name of its institute")
@@ -163,38 +175,38 @@ class Matrix:
             self.institutes.setdefault(found, name.text)
         return found
 
-    def code_of(self, cells: dict, institute: Optional[str]) -> Optional[str]:
+    def code_of(self, cells: Cells, institute: Optional[str]) -> Optional[str]:
         """Returns the code of the programme of a row without its quota, or None."""
         name = cells.get("programme name")
-        if self.table.has("branch"):
+        if self.sheet.has("branch"):
             branch = code(cells["branch"], self.findings)
             found = f"{institute}-{branch}" if institute and branch else None
             if found and not is_code(found):
                 self.findings.wrong(cells["branch"], f"the code {found} is made of institute and programme and has {len(found)} signs; {ALLOWED['code']}")
                 return None
-        elif self.table.has("programme"):
+        elif self.sheet.has("programme"):
             found = code(cells["programme"], self.findings)
-        elif not name.text:
+        elif name and not name.text:
             self.findings.wrong(name, "every row has the name of its programme")
             found = None
         else:
-            found = self.codes.code((institute, bare(name.text)), f"{institute}-", name.text, 6, "P") if institute else None
+            found = self.codes.code((institute, bare(name.text)), f"{institute}-", name.text, 6, "P") if institute and name else None
         if found:
             self.note_words(found, institute, name.text if name else "")
         return found
 
     def note_words(self, found: str, institute: Optional[str], name: str) -> None:
         """Notes by which words a choice may name a programme."""
-        place = self.institutes.get(institute, "")
+        place = self.institutes.get(institute or "", "")
         if name:
             self.titles.setdefault(found, name)
-        texts = [f"{institute}{found}"] + ([] if self.table.is_by_words else [found]) + ([name, f"{place}{name}", f"{name}{place}", f"{institute}{name}"] if name else [])
+        texts = [f"{institute}{found}"] + ([] if self.sheet.is_by_words else [found]) + ([name, f"{place}{name}", f"{name}{place}", f"{institute}{name}"] if name else [])
         texts += [f"{place}{found}"] if place else []
         for text in texts:
             if bare(text):
                 self.words.setdefault(bare(text), {})[found] = None
 
-    def unit_of(self, name: str, cells: dict) -> Optional[str]:
+    def unit_of(self, name: str, cells: Cells) -> Optional[str]:
         """Returns the code of a row with its quota, and notes the home state of a divided programme."""
         end = quota(cells["quota"], self.findings) if "quota" in cells else None
         home = state(cells["home"], self.findings)
@@ -216,15 +228,15 @@ class Matrix:
         if home and known and home != known:
             self.findings.wrong(cells["home"], f"programme {name} has the home state {known} in another row")
         self.units[name] = known or home
-        self.homes.setdefault(name, cells["home"] if self.table.has("home") else cells.get("quota"))
+        self.homes.setdefault(name, cells["home"] if self.sheet.has("home") else cells["quota"])
         return f"{name}-{end}"
 
     # ---- rows
 
-    def take(self, row: int, cells: dict, steps: list) -> None:
+    def take(self, row: int, cells: Cells, steps: list[str]) -> None:
         institute = self.institute_of(cells)
         base = self.code_of(cells, institute)
-        merit = number(cells["list"], LISTS, ALLOWED["list"], self.findings) if self.table.has("list") else self.register.lists()[0]
+        merit = number(cells["list"], LISTS, ALLOWED["list"], self.findings) if self.sheet.has("list") else self.register.lists()[0]
         name = self.unit_of(base, cells) if base else None
         if base is None or name is None:
             self.refused |= {cells[it].text for it in ("programme", "programme name", "branch") if it in cells}
@@ -237,11 +249,11 @@ class Matrix:
 
     def is_pooled(self) -> bool:
         """Returns whether the rows of a long matrix have pools, or steps for persons with disabilities as JoSAA names them."""
-        if self.table.is_by_words:
+        if self.sheet.is_by_words:
             return False
-        return self.table.has("pool") or not self.table.has("D")
+        return self.sheet.has("pool") or not self.sheet.has("D")
 
-    def programme(self, name: str, row: int, institute: Optional[str], merit: Optional[int], cells: dict) -> Programme:
+    def programme(self, name: str, row: int, institute: Optional[str], merit: Optional[int], cells: Cells) -> Programme:
         """Returns the programme of a row; reports what other rows say otherwise of it."""
         known = self.programmes.setdefault(name, Programme(row, institute, merit))
         if institute and known.institute and institute != known.institute:
@@ -250,12 +262,13 @@ class Matrix:
             self.findings.wrong(cells["list"], f"row {known.row} has programme {name} with merit list {known.merit}")
         return known
 
-    def take_long(self, name: Optional[str], row: int, institute: Optional[str], merit: Optional[int], cells: dict) -> None:
+    def take_long(self, name: Optional[str], row: int, institute: Optional[str], merit: Optional[int], cells: Cells) -> None:
         """Takes a row with one step, its seats, and its protected seats by trait."""
         of, seats = step(cells["step"], self.findings), number(cells["seats"], SEATS, ALLOWED["seats"], self.findings)
         protected = [number(cells[it], SEATS, ALLOWED["protection"], self.findings) if cells[it].text else 0 for it in TRAITS]
-        if seats is not None and None not in protected and sum(protected) > seats:
-            self.findings.wrong(cells["seats"], f"{sum(protected)} seats are protected in the columns W to L, more than there are")
+        counts = [it for it in protected if it is not None]
+        if seats is not None and len(counts) == len(protected) and sum(counts) > seats:
+            self.findings.wrong(cells["seats"], f"{sum(counts)} seats are protected in the columns W to L, more than there are")
         if name is None:
             return
         known = self.programme(name, row, institute, merit, cells)
@@ -263,27 +276,28 @@ class Matrix:
             self.findings.wrong(cells["step"], f"row {known.steps[of][0]} has the {of} seats of programme {name} too")
         elif of:
             known.steps[of] = (row, seats or 0)
-            self.rows.append((name, known.institute, known.merit, of, seats, *(protected if None not in protected else [])))
+            self.rows.append((name, known.institute, known.merit, of, seats, *(counts if len(counts) == len(protected) else [])))
 
-    def take_pooled(self, name: Optional[str], row: int, institute: Optional[str], merit: Optional[int], cells: dict) -> None:
+    def take_pooled(self, name: Optional[str], row: int, institute: Optional[str], merit: Optional[int], cells: Cells) -> None:
         """Takes a row with one step of one pool, such as OPEN (PwD), Female-only."""
         word = bare(cells["step"].text)
         ending = next((it for it in DISABLED if word.endswith(it) and word != it), "")
         of = step(cells["step"]._replace(text=word.removesuffix(ending) if ending else cells["step"].text), self.findings)
         seats = number(cells["seats"], SEATS, ALLOWED["seats"], self.findings)
         female = is_female_pool(cells["pool"], self.findings) if "pool" in cells else False
-        if None in (name, of, seats, female):
+        if name is None or of is None or seats is None or female is None:
             return
         self.programme(name, row, institute, merit, cells)
         found = Seats(*(seats if it == (female, bool(ending)) else 0 for it in ((False, False), (True, False), (False, True), (True, True))))
         self.add(name, of, (female, bool(ending)), found, cells["step"])
 
-    def take_wide(self, name: Optional[str], row: int, institute: Optional[str], merit: Optional[int], cells: dict, steps: list) -> None:
+    def take_wide(self, name: Optional[str], row: int, institute: Optional[str], merit: Optional[int], cells: Cells, steps: list[str]) -> None:
         """Takes a row of JoSAA's form: a column for each step, and one for each step's persons with disabilities."""
-        found = {it: number(cells[it], SEATS, ALLOWED["wide seats"], self.findings) if cells[it].text not in ("", "-") else 0 for it in steps}
+        read = {it: number(cells[it], SEATS, ALLOWED["wide seats"], self.findings) if cells[it].text not in ("", "-") else 0 for it in steps}
         total = number(cells["total"], ALL_SEATS, "a total is a number", self.findings) if "total" in cells and cells["total"].text else None
         female = is_female_pool(cells["pool"], self.findings) if "pool" in cells else False
-        if None in found.values() or name is None or female is None:
+        found = {it: count for it, count in read.items() if count is not None}
+        if len(found) < len(read) or name is None or female is None:
             return
         self.look_at_total(cells, found, total)
         self.programme(name, row, institute, merit, cells)
@@ -293,7 +307,7 @@ class Matrix:
             if of in steps or any(seats):
                 self.add(name, of, (female,), seats, cells.get(of, cells[steps[0]]))
 
-    def look_at_total(self, cells: dict, found: dict, total: Optional[int]) -> None:
+    def look_at_total(self, cells: Cells, found: dict[str, int], total: Optional[int]) -> None:
         """Compares the total of a row with the sum of its columns, with and without those for persons with disabilities."""
         apart = sum(found.values())
         among = sum(count for it, count in found.items() if "PwD" not in it)
@@ -309,7 +323,7 @@ class Matrix:
             if first[0] != is_apart:
                 self.findings.wrong(cells["total"], f"this row counts the seats for persons with disabilities {'apart from' if is_apart else 'among'} the others, and row {first[1].row} does not")
 
-    def add(self, name: str, of: str, pool: tuple, seats: Seats, cell: Cell) -> None:
+    def add(self, name: str, of: str, pool: tuple[bool, ...], seats: Seats, cell: Cell) -> None:
         """Adds the seats of one pool to a step of a programme."""
         known = self.programmes[name].steps.setdefault(of, {})
         if pool in known:
@@ -319,7 +333,8 @@ class Matrix:
 
     def join_pools(self) -> None:
         """Makes one row of the pools of each step, with W and D for the seats that are protected."""
-        is_apart, examples, sums = self.wide.get("is_apart", (True,))[0], [], Seats(0, 0, 0, 0)
+        is_apart, sums = self.wide.get("is_apart", (True,))[0], Seats(0, 0, 0, 0)
+        examples: list[str] = []
         written = {row[0] for row in self.rows}
         for name, it in self.programmes.items():
             for of, pools in it.steps.items():
@@ -340,7 +355,7 @@ class Matrix:
                 self.rows.append((name, it.institute, it.merit, "OPEN", 0, 0, 0, 0, 0, 0, 0))
         self.tell_pools(sums, examples, is_apart)
 
-    def joined(self, name: str, it: Programme, of: str, cell: Cell, both: Seats, is_apart: bool) -> tuple:
+    def joined(self, name: str, it: Programme, of: str, cell: Cell, both: Seats, is_apart: bool) -> tuple[Any, ...]:
         """Returns the row of a step whose pools are joined."""
         seats = sum(both) if is_apart else both.neutral + both.female
         women, disabled = both.female if is_apart else both.female - both.both, both.disabled + both.both
@@ -352,7 +367,7 @@ class Matrix:
             self.findings.wrong(cell, f"{women + disabled} seats of {name} {of} are protected, and there are {seats}")
         return (name, it.institute, it.merit, of, seats, max(women, 0), disabled, 0, 0, 0, 0)
 
-    def tell_pools(self, sums: Seats, examples: list, is_apart: bool) -> None:
+    def tell_pools(self, sums: Seats, examples: list[str], is_apart: bool) -> None:
         """Says in words how pools and columns for persons with disabilities became seats."""
         if sums.female:
             self.remarks.append(f"pools: {sums.neutral:,} gender-neutral and {sums.female:,} female-only seats are {sums.neutral + sums.female:,} seats, of which {sums.female:,} are protected for W (women), such as {'; '.join(examples)}")
@@ -369,9 +384,9 @@ class Matrix:
         for base, home in self.units.items():
             if not home:
                 where = self.homes[base]
-                self.findings.wrong(where, f"programme {base} is divided by state, and no row has its home state: {'fill' if self.table.has('home') else 'add'} a column `home`, such as KA or Karnataka")
+                self.findings.wrong(where, f"programme {base} is divided by state, and no row has its home state: {'fill' if self.sheet.has('home') else 'add'} a column `home`, such as KA or Karnataka")
             if base in self.programmes:
-                self.findings.wrong_file(self.table.file, f"programme {base} has rows with and without a home-state quota: seats for all are a programme of their own")
+                self.findings.wrong_file(self.sheet.file, f"programme {base} has rows with and without a home-state quota: seats for all are a programme of their own")
             one = next(it for end in ("HS", "OS") for it in [self.programmes.get(f"{base}-{end}")] if it)
             for name in (f"{base}-HS", f"{base}-OS"):
                 if name not in self.programmes:
@@ -383,12 +398,12 @@ class Matrix:
     def look_at_codes(self) -> None:
         """Asks whether codes are meant that look as if a spreadsheet program had made them of others."""
         for meaning in ("programme", "institute", "branch"):
-            at = self.table.means.get(meaning)
+            at = self.sheet.means.get(meaning)
             if at is None:
                 continue
-            cells = {}
-            for row, fields in self.table.rows:
-                cell = self.table.cell(row, fields, meaning)
+            cells: Cells = {}
+            for row, fields in self.sheet.rows:
+                cell = self.sheet.cell(row, fields, meaning)
                 cells.setdefault(cell.text, cell)
             width, why = width_of([it for it in cells if re.fullmatch("[0-9]+", it)])
             for text, cell in cells.items():
@@ -399,14 +414,14 @@ class Matrix:
 
     def look_at_sums(self) -> None:
         if len(self.programmes) > PROGRAMMES.most:
-            self.findings.wrong_file(self.table.file, f"{len(self.programmes):,} programmes are too many: at most {PROGRAMMES.most:,}")
+            self.findings.wrong_file(self.sheet.file, f"{len(self.programmes):,} programmes are too many: at most {PROGRAMMES.most:,}")
         seats = sum(count for it in self.programmes.values() for _, count in it.steps.values())
         if seats > ALL_SEATS.most:
-            self.findings.wrong_file(self.table.file, f"{seats:,} seats are too many: at most {ALL_SEATS.most:,} in all")
+            self.findings.wrong_file(self.sheet.file, f"{seats:,} seats are too many: at most {ALL_SEATS.most:,} in all")
 
     # ---- what the choices ask
 
-    def choosable(self) -> dict:
+    def choosable(self) -> dict[str, Programme]:
         """Returns the programmes by the codes that a choice may name: that of a divided one is without its quota."""
         if self.by_choice is None:
             plain = {it: one for it, one in self.programmes.items() if not self.base_of(it)}
@@ -423,6 +438,6 @@ class Matrix:
             self.by_letters.update((it.lstrip("0").lower(), it) for it in self.choosable())
         return self.by_letters.get(name.lstrip("0").lower())
 
-    def named(self, text: str) -> list:
+    def named(self, text: str) -> list[str]:
         """Returns the codes that words may mean."""
         return [*self.words.get(bare(text), {})]

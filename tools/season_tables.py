@@ -1,22 +1,25 @@
 """What the register, the choices and the settings of a season say: tools/season reads them by this. Each reader reports everything that is wrong, and gives what is right."""
 import difflib
 import re
-from typing import Any, Iterable, Optional
+from typing import Any, Iterable, Optional, Union
 
 from formats import ALL_CHOICES, ALLOWED, CANDIDATES, CHOICES, MERIT_LISTS, NUMBER, ROUNDS, TOKEN, TRAITS, listed
 from season_columns import CHOICE
-from season_ranks import cells_of, give_places, lists_of, rank_rows, read_ranks
+from season_ranks import Ranked, cells_of, give_places, lists_of, rank_rows, read_ranks
 from season_seats import Matrix
 from season_words import application, bare, category, code, gender, has_trait, is_code, number, place, state, traits
-from spreadsheets import Cell, Findings, Table, counted, letters, read_table, some, stripped
+from spreadsheets import Cell, Findings, Row, Table, counted, letters, read_table, some, stripped
 
 ASKS_GAPS = "a preference is missing in the order: do the later choices move up?"
 ASKS_TWICE = "a candidate has two rows that agree in every column that is read: is one of them left out?"
 # preferences, and the least likeness of words that are named as perhaps meant
 PREFERENCE, LIKE = "a preference is a number from 1 on, and the most wanted programme has 1", 0.75
 
+# the number or the application number by which the register knows a candidate
+Key = Union[int, str]
 
-def missing_of(ranks: list) -> list:
+
+def missing_of(ranks: list[int]) -> list[str]:
     """Returns the preferences that are missing before the last one, in words such as 2 or 4 to 6."""
     gaps = [(before + 1, rank - 1) for before, rank in zip([0, *ranks], ranks) if rank > before + 1]
     return [str(first) if first == last else f"{first} to {last}" for first, last in gaps]
@@ -26,7 +29,9 @@ class Tokens:
     """The tokens that the files give: each of the form, and each once."""
 
     def __init__(self, findings: Findings) -> None:
-        self.findings, self.rows = findings, {}
+        self.findings = findings
+        # where each token is
+        self.rows: dict[str, str] = {}
 
     def given(self, cell: Cell) -> str:
         """Returns a token, or nothing if the field is empty."""
@@ -48,9 +53,10 @@ class Season:
     KEYS = ("rounds", "version", "clerk")
 
     def __init__(self, folder: str, findings: Findings, tokens: Tokens) -> None:
-        self.rounds, self.version, self.clerk = None, 1, ""
+        self.rounds: Optional[int] = None
+        self.version, self.clerk = 1, ""
         file, self.rows = read_table(folder, "season", findings, self.KEYS)
-        seen: dict = {}
+        seen: dict[str, int] = {}
         for row, fields in self.rows or []:
             cells = [Cell(file, row, "", at, stripped(it)) for at, it in enumerate(fields)]
             key = cells[0].text.lower()
@@ -84,10 +90,12 @@ class Candidate:
 
     def __init__(self, row: int, id: Optional[int], application_number: str = "") -> None:
         self.row, self.id, self.application = row, id, application_number
-        self.category, self.traits, self.token, self.name, self.state = None, "-", "", "", ""
-        self.places: dict = {}
+        self.category: Optional[str] = None
+        self.traits, self.token, self.name = "-", "", ""
+        self.state: Optional[str] = ""
+        self.places: dict[str, str] = {}
         # the merit lists in which the place was refused: other errors follow from that
-        self.refused: set = set()
+        self.refused: set[str] = set()
         self.is_refused = False
 
     def called(self) -> str:
@@ -98,26 +106,32 @@ class Candidate:
 class Register:
     """The rows of the register, by the candidates' numbers. If the board has application numbers, the tool gives the numbers, the same ones at each call."""
 
-    def __init__(self, table: Optional[Table], findings: Findings, tokens: Tokens, numbers: dict) -> None:
+    def __init__(self, table: Optional[Table], findings: Findings, tokens: Tokens, numbers: dict[str, int]) -> None:
         self.table, self.findings, self.tokens = table, findings, tokens
         self.file = table.file if table else "register.csv"
-        self.people: dict = {}
-        self.by_key: dict = {}
-        self.rows: dict = {}
-        self.refused: set = set()
-        self.taken: dict = {}
+        self.people: dict[int, Candidate] = {}
+        self.by_key: dict[Key, Candidate] = {}
+        self.rows: dict[Key, Row] = {}
+        self.refused: set[str] = set()
+        self.taken: dict[tuple[str, str], Candidate] = {}
         # the candidates by fields of the choices that are written as in the register
-        self.found: dict = {}
+        self.found: dict[str, Candidate] = {}
         # how many rows have a candidate whose number was refused, and the fields of the choices by numbers that no row has
         self.lost = 0
-        self.unknown: dict = {}
-        self.without_zeros: Optional[dict] = None
-        self.remarks: list = []
-        self.ranked: dict = {}
+        self.unknown: dict[Key, list[Cell]] = {}
+        self.without_zeros: Optional[dict[str, Key]] = None
+        self.remarks: list[str] = []
+        self.ranked: dict[str, list[Ranked]] = {}
         if table:
             self.read(table, numbers)
 
-    def read(self, table: Table, numbers: dict) -> None:
+    @property
+    def sheet(self) -> Table:
+        """Returns the table. Whoever asks knows that there is one."""
+        assert self.table is not None
+        return self.table
+
+    def read(self, table: Table, numbers: dict[str, int]) -> None:
         if table.is_by_words:
             table.looks_beyond()
         self.key = "application number" if table.has("application number") else "number"
@@ -132,31 +146,33 @@ class Register:
         for name, people in self.ranked.items():
             self.remarks += give_places(name, people, self.findings, self.file)
 
-    def lists_by_name(self) -> list:
+    def lists_by_name(self) -> list[str]:
         return [it for it in MERIT_LISTS if lists_of(it, self.table)] if self.table else []
 
-    def rank_rows(self) -> list:
+    def rank_rows(self) -> list[list[str]]:
         """Returns the rows of names.csv on the places that are ranks in another list."""
         return [row for name, people in self.ranked.items() for row in rank_rows(MERIT_LISTS.index(name) + 1, people)]
 
-    def lists(self) -> list:
+    def lists(self) -> list[int]:
         """Returns the numbers of the merit lists of which the register has a column."""
         return [MERIT_LISTS.index(it) + 1 for it in self.lists_by_name()]
 
     def has_list(self, number_of_list: int) -> bool:
         return self.table is None or MERIT_LISTS[number_of_list - 1] in self.lists_by_name()
 
-    def give_numbers(self, numbers: dict) -> None:
+    def give_numbers(self, numbers: dict[str, int]) -> None:
         """Numbers candidates with application numbers: by an earlier call, and the others behind these in the order of the register."""
         following = max(numbers.values(), default=0) + 1
         without_zeros = {it.lstrip("0"): it for it in numbers}
         for key, one in self.by_key.items():
             if self.key == "application number":
-                one.id = numbers.get(key)
-                if one.id is None and key.lstrip("0") in without_zeros:
-                    self.findings.wrong_file("the file of tokens", f"{key} is written `{without_zeros[key.lstrip('0')]}` there: a spreadsheet program drops zeros at the beginning. Put a good copy in its place")
+                text = str(key)
+                one.id = numbers.get(text)
+                if one.id is None and text.lstrip("0") in without_zeros:
+                    self.findings.wrong_file("the file of tokens", f"{key} is written `{without_zeros[text.lstrip('0')]}` there: a spreadsheet program drops zeros at the beginning. Put a good copy in its place")
                 if one.id is None:
                     one.id, following = following, following + 1
+            assert one.id is not None
             self.people[one.id] = one
         gone = [it for it in numbers if it not in self.by_key]
         if gone and self.key == "application number":
@@ -164,17 +180,17 @@ class Register:
 
     # ---- rows
 
-    def key_of(self, cell: Cell) -> Any:
+    def key_of(self, cell: Cell) -> Optional[Key]:
         """Returns the number by which a candidate is known, or None."""
         if self.key == "number":
             return number(cell, NUMBER, ALLOWED["id"], self.findings)
         return application(cell, self.findings)
 
-    def take(self, row: int, fields: list) -> None:
-        table = self.table
+    def take(self, row: int, fields: list[str]) -> None:
+        table = self.sheet
         cell = table.cell(row, fields, self.key)
         key = self.key_of(cell)
-        one = Candidate(row, key if self.key == "number" else None, key if self.key != "number" and key else "")
+        one = Candidate(row, key if isinstance(key, int) else None, key if isinstance(key, str) else "")
         if key is None:
             self.refused.add(cell.text)
             self.lost += 1
@@ -196,23 +212,23 @@ class Register:
                 self.take_place(one, name, table.cell(row, fields, name))
         one.is_refused = self.findings.count() > before
 
-    def look_at_twice(self, cell: Cell, key: Any, fields: list) -> None:
+    def look_at_twice(self, cell: Cell, key: Key, fields: list[str]) -> None:
         """Reports a candidate with two rows: whether they differ, and in what."""
         row, first = self.rows[key]
-        differ = []
-        for meaning, at in sorted(self.table.means.items(), key=lambda it: it[1]):
+        differ: list[str] = []
+        for meaning, at in sorted(self.sheet.means.items(), key=lambda it: it[1]):
             one, other = (stripped(it[at]) if at < len(it) else "" for it in (first, fields))
             if one != other and meaning != self.key:
-                differ.append(f"{self.table.name(at)}" if meaning == "token" else f"{self.table.name(at)} (`{one:.30}` there, `{other:.30}` here)")
+                differ.append(f"{self.sheet.name(at)}" if meaning == "token" else f"{self.sheet.name(at)} (`{one:.30}` there, `{other:.30}` here)")
         if differ:
             self.lost += 1
             self.findings.wrong(cell, f"row {row} has this candidate too; the rows differ in {listed(differ, 'and')}")
         else:
             self.findings.doubts("twice", ASKS_TWICE, cell, f"row {row} has the same")
 
-    def traits_of(self, row: int, fields: list, disabled: str) -> str:
+    def traits_of(self, row: int, fields: list[str], disabled: str) -> str:
         """Returns the traits of all columns that have some."""
-        table, found = self.table, [disabled]
+        table, found = self.sheet, [disabled]
         if table.has("traits"):
             found.append(traits(table.cell(row, fields, "traits"), self.findings))
         if table.has("gender"):
@@ -248,7 +264,7 @@ class Register:
         if key in self.by_key and str(key) == cell.text:
             self.found[cell.text] = self.by_key[key]
         if key is None or key in self.by_key:
-            return self.by_key.get(key)
+            return None if key is None else self.by_key[key]
         near = self.near(str(key))
         if near:
             self.findings.wrong(cell, f"{self.file} has no such candidate; it has {near}: a spreadsheet program drops zeros at the beginning")
@@ -262,7 +278,7 @@ class Register:
             for cell in cells[:1] if self.lost else cells:
                 self.findings.wrong(cell, f"{self.file} has no such candidate{'; perhaps it is one whose number is wrong there' if self.lost else ''}")
 
-    def near(self, key: str) -> Optional[str]:
+    def near(self, key: str) -> Optional[Key]:
         if self.without_zeros is None:
             self.without_zeros = {str(it).lstrip("0"): it for it in self.by_key}
         return self.without_zeros.get(key.lstrip("0"))
@@ -276,9 +292,10 @@ class Choices:
 
     def __init__(self, table: Optional[Table], findings: Findings, register: Register, matrix: Matrix) -> None:
         self.table, self.findings, self.register, self.matrix = table, findings, register, matrix
-        self.lists: dict = {}
-        self.rows: dict = {}
-        self.known: dict = {}
+        # the choices and the row of each candidate, by number
+        self.lists: dict[Optional[int], dict[str, Cell]] = {}
+        self.rows: dict[Optional[int], int] = {}
+        self.known: dict[str, list[str]] = {}
         if not table:
             return
         self.file = table.file
@@ -288,8 +305,14 @@ class Choices:
         if count > ALL_CHOICES.most:
             findings.wrong_file(self.file, f"{count:,} choices are too many: at most {ALL_CHOICES.most:,} in all")
 
+    @property
+    def sheet(self) -> Table:
+        """Returns the table. Whoever asks knows that there is one."""
+        assert self.table is not None
+        return self.table
+
     def take_all(self) -> None:
-        table = self.table
+        table = self.sheet
         numbered = sorted((int(found[1]), at) for it, at in table.means.items() for found in [CHOICE.fullmatch(it)] if found)
         if numbered:
             self.take_wide([at for _, at in numbered])
@@ -302,17 +325,17 @@ class Choices:
                 table.looks_beyond()
             self.take_by_choice()
 
-    def wide_columns(self) -> list:
+    def wide_columns(self) -> list[int]:
         """Returns the columns of choices: `programmes`, and to its right those without a name or with a number in it."""
-        table = self.table
+        table = self.sheet
         first, names = table.means["programmes"], [it.lower() for it in table.header.names]
         found = [at for at in range(first, len(names)) if at == first or not names[at] or re.fullmatch(r"(programmes?|choice|preference)?[ _-]?[0-9]+", names[at])]
         table.left_out = [it for it in table.left_out if it not in found]
         return [*found, *range(len(names), max((len(it) for _, it in table.rows), default=0))]
 
-    def candidate(self, row: int, fields: list) -> tuple:
+    def candidate(self, row: int, fields: list[str]) -> tuple[Cell, Optional[Candidate]]:
         """Returns the field of a row with the candidate, and the candidate, or None if the register has none."""
-        cell = self.table.cell(row, fields, "candidate")
+        cell = self.sheet.cell(row, fields, "candidate")
         return cell, self.register.find(cell)
 
     def is_first(self, one: Candidate, row: int, cell: Cell) -> bool:
@@ -321,13 +344,13 @@ class Choices:
             self.findings.wrong(cell, f"row {self.rows[one.id]} has the choices of this candidate too")
         return self.rows[one.id] == row
 
-    def take_wide(self, columns: list) -> None:
+    def take_wide(self, columns: list[int]) -> None:
         """Takes rows with one choice in each column."""
-        for row, fields in self.table.rows:
+        for row, fields in self.sheet.rows:
             cell, one = self.candidate(row, fields)
             if one is None or not self.is_first(one, row, cell):
                 continue
-            cells = [self.table.field(row, fields, at, "" if self.table.is_by_words else self.table.name(at)) for at in columns]
+            cells = [self.sheet.field(row, fields, at, "" if self.sheet.is_by_words else self.sheet.name(at)) for at in columns]
             while cells and not cells[-1].text:
                 cells.pop()
             ranks = [rank for rank, it in enumerate(cells, 1) if it.text]
@@ -337,17 +360,19 @@ class Choices:
 
     def take_joined(self) -> None:
         """Takes rows with all choices in one field, with semicolons, bars or ends of lines between them."""
-        for row, fields in self.table.rows:
+        for row, fields in self.sheet.rows:
             cell, one = self.candidate(row, fields)
             if one is not None and self.is_first(one, row, cell):
-                whole = self.table.cell(row, fields, "programmes")
+                whole = self.sheet.cell(row, fields, "programmes")
                 parts = re.split(r"[;|\n]" if re.search(r"[;|\n]", whole.text) else ",", whole.text)
                 parts = [re.sub(r"^\s*[0-9]+\s*[.)]\s*", "", it) for it in parts]
                 self.take(one, [whole._replace(text=stripped(it)) for it in parts if stripped(it)])
 
     def take_by_choice(self) -> None:
         """Takes rows with one choice each, in any order."""
-        table, found, who = self.table, {}, {}
+        table = self.sheet
+        found: dict[Optional[int], dict[int, Cell]] = {}
+        who: dict[Optional[int], Candidate] = {}
         for row, fields in table.rows:
             _, one = self.candidate(row, fields)
             if table.has("preference"):
@@ -369,21 +394,20 @@ class Choices:
                 self.asks_of_gaps(who[id], ranks, cells[late])
             self.take(who[id], [cells[it] for it in ranks])
 
-    def with_institute(self, row: int, fields: list) -> Cell:
+    def with_institute(self, row: int, fields: list[str]) -> Cell:
         """Returns the field of a row with the programme, and with the institute before it if that is a column of its own."""
-        cell = self.table.cell(row, fields, "programme")
-        institute = self.table.cell(row, fields, "institute").text if self.table.has("institute") else ""
+        cell = self.sheet.cell(row, fields, "programme")
+        institute = self.sheet.cell(row, fields, "institute").text if self.sheet.has("institute") else ""
         return cell._replace(text=f"{institute} {cell.text}") if institute and cell.text not in self.matrix.choosable() else cell
 
-    def asks_of_gaps(self, one: Candidate, ranks: list, cell: Cell) -> None:
+    def asks_of_gaps(self, one: Candidate, ranks: list[int], cell: Cell) -> None:
         """Asks about the preferences that a candidate has not filled, and names the first ten gaps."""
         self.findings.doubts("gaps", ASKS_GAPS, cell, f"{one.called()} has no preference {listed(missing_of(ranks)[:10])}")
 
     # ---- one list
 
-    def take(self, one: Candidate, cells: Iterable) -> None:
+    def take(self, one: Candidate, cells: list[Cell]) -> None:
         """Takes the list of a candidate, programme by programme."""
-        cells = [*cells]
         found = self.lists.setdefault(one.id, {})
         if len(cells) > CHOICES.most:
             self.findings.wrong(cells[CHOICES.most], f"the list of {one.called()} has {len(cells):,} programmes: at most {CHOICES.most:,}")
@@ -409,7 +433,7 @@ class Choices:
             self.findings.wrong(cell, f"{len(named)} programmes are called so: {listed(named, 'and')}; write one of these codes, or the institute too")
         elif matrix.words and not is_code(cell.text) and not re.fullmatch(r"[0-9]+\.0+", cell.text):
             near = difflib.get_close_matches(bare(cell.text), matrix.words, 1, LIKE)
-            self.findings.wrong(cell, f"{matrix.table.file} has no programme that is called so{f'; it has {next(iter(matrix.words[near[0]]))} by like words' if near else ''}")
+            self.findings.wrong(cell, f"{matrix.sheet.file} has no programme that is called so{f'; it has {next(iter(matrix.words[near[0]]))} by like words' if near else ''}")
         else:
             return self.by_code(cell)
         return None
@@ -424,10 +448,10 @@ class Choices:
             self.findings.wrong(cell, f"a choice names the programme and never one of its units: write {base}")
             return None
         near = matrix.near(name)
-        self.findings.wrong(cell, f"{matrix.table.file} has no programme of this code{f'; it has {near}' if near else ''}")
+        self.findings.wrong(cell, f"{matrix.sheet.file} has no programme of this code{f'; it has {near}' if near else ''}")
         return None
 
-    def is_sought(self, one: Candidate, name: str, cell: Cell, found: dict) -> bool:
+    def is_sought(self, one: Candidate, name: str, cell: Cell, found: dict[str, Cell]) -> bool:
         """Returns whether the candidate may list the programme here; reports why not."""
         of = self.matrix.choosable()[name]
         twice = found.get(name)
@@ -439,7 +463,7 @@ class Choices:
             if merit not in one.refused:
                 self.findings.wrong(cell, f"{one.called()} has no place in {merit}, the merit list of this programme ({self.register.file}, row {one.row})")
             return False
-        if name in self.matrix.units and not one.state and self.register.table.has("state"):
+        if name in self.matrix.units and not one.state and self.register.sheet.has("state"):
             self.findings.wrong(cell, f"{one.called()} has no state, and this programme is divided by state ({self.register.file}, row {one.row})")
             return False
         return True

@@ -128,7 +128,7 @@ def category_of(word: str) -> Optional[str]:
     return CATEGORY_WORDS.get(word) or CATEGORY_WORDS.get(word.rstrip("s")) or ("OPEN" if word == "open" else None)
 
 
-def category(cell: Cell, findings: Findings) -> tuple:
+def category(cell: Cell, findings: Findings) -> tuple[Optional[str], str]:
     """Returns the category of a field, and D if the field says that too."""
     word = bare(cell.text)
     ending = next((it for it in DISABLED if word.endswith(it) and category_of(word.removesuffix(it))), "")
@@ -168,7 +168,7 @@ def traits(cell: Cell, findings: Findings) -> str:
         why = "; there is no trait for men: leave the field empty" if bare(cell.text) in ("m", "male") else ""
         findings.wrong(cell, ALLOWED["traits"] + why)
         return ""
-    joined = "".join(found)
+    joined = "".join(filter(None, found))
     if len(set(joined)) < len(joined):
         findings.wrong(cell, f"a letter is there twice; {ALLOWED['traits']}")
     made = "".join(it for it in TRAITS if it in joined) or "-"
