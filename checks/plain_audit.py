@@ -14,14 +14,21 @@ import io
 import itertools
 import re
 import sys
+from typing import Collection, Generator, Iterable, Iterator, Optional, Union
 
-from plain_office import STAYS, STEPS, TRAITS, Office, Round, Season, greatest
+from plain_office import Answer, Office, Person, Protections, Round, STAYS, STEPS, Season, Seat, TRAITS, greatest
 from plain_scripts import is_request
 from plain_special import read_lists, season_left
 
 MOST_INPUT = 134_217_728
 MOST_32_BITS = 4_294_967_295
 NUMBER_OF_32_BITS = None
+# a line that may come next: for each of its words those that may be there
+Form = tuple[Optional[Collection[str]], ...]
+# a text that is published: it gives the forms of its lines one by one, and gets the lines
+Text = Generator[Form, str, None]
+# a row of a round or of the final admissions: a candidate, a programme and a step
+Row = tuple[int, str, str]
 SECTIONS = ("[season]", "[register]", "[matrix]", "[choices]")
 
 
@@ -32,7 +39,7 @@ class Fault(Exception):
 # ---- the three parts of a dossier
 
 
-def lines_of(given):
+def lines_of(given: bytes) -> Iterator[tuple[int, int, bytes]]:
     """The lines of bytes, each with its end, and with it."""
     at = 0
     while at < len(given):
@@ -41,16 +48,17 @@ def lines_of(given):
         at = end
 
 
-def title(line):
+def title(line: bytes) -> bytes:
     """A line without its end and its commas."""
     return line.removesuffix(b"\n").removesuffix(b"\r").rstrip(b",")
 
 
-def parts_of(given):
+def parts_of(given: bytes) -> tuple[bytes, bytes, bytes]:
     """The bundle, the requests and what is published."""
     if len(given) > MOST_INPUT:
         raise Fault("dossier TooLong")
-    marks, names = [], [b"[requests]", b"[published]"]
+    marks: list[int] = []
+    names = [b"[requests]", b"[published]"]
     for at, end, line in lines_of(given):
         if title(line.removeprefix(b"\xef\xbb\xbf") if at == 0 else line) == names[0]:
             marks += [at, end]
@@ -60,9 +68,10 @@ def parts_of(given):
     raise Fault("dossier NoSection")
 
 
-def special_parts_of(published):
+def special_parts_of(published: bytes) -> Optional[tuple[bytes, bytes, bytes]]:
     """What is published of the season, and behind it the lists and the texts of a special round; nothing if one of their section lines is missing."""
-    marks, names = [], [b"[lists]", b"[special]"]
+    marks: list[int] = []
+    names = [b"[lists]", b"[special]"]
     for at, end, line in lines_of(published):
         if names and title(line) == names[0]:
             marks += [at, end]
@@ -73,7 +82,7 @@ def special_parts_of(published):
 # ---- the season and its script
 
 
-def records(text: str) -> list:
+def records(text: str) -> list[list[str]]:
     """Returns the comma-separated records of a text, with or without quotes. Empty fields at an end are none, and a record without fields is none."""
     csv.field_size_limit(sys.maxsize)
     found = []
@@ -86,7 +95,7 @@ def records(text: str) -> list:
     return found
 
 
-def season_of(bundle):
+def season_of(bundle: bytes) -> Season:
     """The season of a bundle without a fault, but for the few faults that are known here."""
     try:
         text = bundle.decode().removeprefix("\ufeff")
@@ -118,7 +127,7 @@ def season_of(bundle):
     return Season("\n".join([lines[0], *(line for name in SECTIONS for line in (name, *map(",".join, body[name])))]))
 
 
-def script_of(requests):
+def script_of(requests: bytes) -> list[list[str]]:
     """The rows of a script."""
     try:
         text = requests.decode().removeprefix("\ufeff")
@@ -131,7 +140,7 @@ def script_of(requests):
     return rows
 
 
-def cuts_of(season, rows):
+def cuts_of(season: Season, rows: list[list[str]]) -> int:
     """How many cuts of the script are accepted."""
     now = 0
     for row in rows:
@@ -142,17 +151,17 @@ def cuts_of(season, rows):
 # ---- what is published: each text by the lines that may come next, and what has then been said
 
 
-def is_number(word):
+def is_number(word: str) -> bool:
     return re.fullmatch("0|[1-9][0-9]*", word) is not None and int(word) <= MOST_32_BITS
 
 
-def fits(form, line):
+def fits(form: Form, line: str) -> bool:
     """Whether a line is of a form: each of its words is one of those that may be there."""
     words = line.split(" ")
     return len(words) == len(form) and all(is_number(it) if may is NUMBER_OF_32_BITS else it in may for it, may in zip(words, form))
 
 
-def could_fit(form, piece):
+def could_fit(form: Form, piece: str) -> bool:
     """Whether more letters may make a line of the form of what is there."""
     *whole, last = piece.split(" ")
     if len(whole) >= len(form) or not fits(form[: len(whole)], " ".join(whole)) and whole:
@@ -161,11 +170,11 @@ def could_fit(form, piece):
     return not last or is_number(last) if may is NUMBER_OF_32_BITS else any(it.startswith(last) for it in may)
 
 
-def words(*texts):
+def words(*texts: str) -> list[set[str]]:
     return [{it} for text in texts for it in text.split()]
 
 
-def rows_text(season, name, row, end, found):
+def rows_text(season: Season, name: list[set[str]], row: str, end: str, found: list[Row]) -> Text:
     """A text of rows: its number, its rows by rising candidates, and its end. Each line that may come next is given, and the one that came is taken."""
     ids = [it.id for it in season.people]
     line = yield (*name, {str(it) for it in range(len(ids) + 1 if season.programmes else 1)})
@@ -179,7 +188,7 @@ def rows_text(season, name, row, end, found):
     yield tuple(words(end))
 
 
-def list_text(season, number, code, found):
+def list_text(season: Season, number: int, code: str, found: dict[str, "Listed"]) -> Text:
     """The list of a programme: its steps, each with its numbers, its persons by the letters of their positions, and as many of these as it says."""
     ids = [str(it.id) for it in season.people]
     yield tuple(words(f"list {number} {code}"))
@@ -188,11 +197,13 @@ def list_text(season, number, code, found):
         line = yield (*words(f"step {step} seats"), NUMBER_OF_32_BITS, {"candidates"}, NUMBER_OF_32_BITS, {"admitted"}, set(up_to))
         seats, candidates, admitted = (int(it) for it in line.split(" ")[3::2])
         line = yield ({"honoured"}, set(up_to[:1] if step == "D" else up_to[: admitted + 1]))
-        honoured, persons = int(line.split(" ")[1]), []
+        honoured = int(line.split(" ")[1])
+        persons: list[tuple[str, str]] = []
         for left in range(admitted, 0, -1):
             may = {*(TRAITS if honoured else ""), *("-" if honoured < left else "")}
             line = yield (set(ids).difference(it for it, _ in persons), may)
-            persons.append(tuple(line.split(" ")))
+            cand, letter = line.split(" ")
+            persons.append((cand, letter))
             honoured -= not line.endswith("-")
         found[step] = Listed(seats, candidates, [int(it) for it, _ in persons], [it for _, it in persons])
     yield tuple(words("end list"))
@@ -201,20 +212,20 @@ def list_text(season, number, code, found):
 class Listed:
     """A step as it is listed."""
 
-    def __init__(self, seats, candidates, admitted, letters):
+    def __init__(self, seats: int, candidates: int, admitted: list[int], letters: list[str]) -> None:
         self.seats, self.candidates, self.admitted, self.letters = seats, candidates, admitted, letters
 
 
 class Papers:
     """What is published: the rows of each round, its lists by programme and step, and the final rows."""
 
-    def __init__(self, season, cuts):
+    def __init__(self, season: Season, cuts: int) -> None:
         count = min(cuts, season.rounds)
-        self.rounds = [[] for _ in range(count)]
-        self.lists = [{code: {} for code in season.programmes} for _ in range(count)]
-        self.finals = [] if cuts > season.rounds else None
+        self.rounds: list[list[Row]] = [[] for _ in range(count)]
+        self.lists: list[dict[str, dict[str, Listed]]] = [{code: {} for code in season.programmes} for _ in range(count)]
+        self.finals: Optional[list[Row]] = [] if cuts > season.rounds else None
 
-    def texts(self, season):
+    def texts(self, season: Season) -> Iterator[Text]:
         for at, (rows, lists) in enumerate(zip(self.rounds, self.lists), 1):
             yield rows_text(season, words(f"round {at} seated"), "allot", "end round", rows)
             for code, found in lists.items():
@@ -223,12 +234,12 @@ class Papers:
             yield rows_text(season, words("final"), "admit", "end final", self.finals)
 
 
-def papers_of(season, cuts, published, name="published"):
+def papers_of(season: Season, cuts: int, published: bytes, name: str = "published") -> Papers:
     """What is published, or the first line with which it begins nothing that may be."""
     papers, number = Papers(season, cuts), 0
     lines = iter([it.decode("latin-1") for _, _, it in lines_of(published)])
     for text in papers.texts(season):
-        form, line = next(text), None
+        form: Optional[Form] = next(text)
         while form is not None:
             number, line = number + 1, next(lines, "")
             if not line.endswith("\n"):
@@ -251,39 +262,48 @@ def papers_of(season, cuts, published, name="published"):
 class Published:
     """A round as it is published."""
 
-    def __init__(self, rows, lists):
-        self.rows, self.lists, self.seats = rows, lists, {cand: seat for cand, *seat in rows}
+    def __init__(self, rows: list[Row], lists: dict[str, dict[str, Listed]]) -> None:
+        self.rows, self.lists = rows, lists
+        self.seats: dict[int, Seat] = {cand: (code, step) for cand, code, step in rows}
 
 
 class Audited(Office):
     """An office that takes each round from the papers and makes none. It stops at the first clause that is broken."""
 
-    def __init__(self, season, papers, is_best):
+    def __init__(self, season: Season, papers: Papers, is_best: bool) -> None:
         super().__init__(season)
         self.is_best = is_best
-        self.papers, self.broken, self.known, self.seen = papers, None, {}, 0
+        self.papers, self.seen = papers, 0
+        self.broken: Optional[str] = None
+        # what was accepted by window and candidate
+        self.known: dict[tuple[int, int], list[Answer]] = {}
         # the first round that is not the best one, with the first candidate whom the best one gives a better place
-        self.worse = None
+        self.worse: Optional[tuple[int, int]] = None
 
-    def kept(self, cand, window):
+    def kept(self, cand: int, window: int) -> list[Answer]:
         for it in self.answers[self.seen :]:
             self.known.setdefault(it[:2], []).append(it)
         self.seen = len(self.answers)
         return self.known.get((window, cand), [])
 
-    def reply_to_cut(self, by, window):
+    def reply(self, row: str) -> str:
+        """Takes what changes the season; a question changes nothing."""
+        return super().reply(row) if row.partition(",")[0] in ("answer", "cut", "raise") else ""
+
+    def reply_to_cut(self, by: str, window: int) -> str:
         if by == "clerk" and window == self.cuts <= self.season.rounds:
             if window < self.season.rounds:
                 found = Published(self.papers.rounds[window], self.papers.lists[window])
                 self.broken = next(broken_in(self, found), None)
                 if self.is_best and not self.broken and not self.worse:
                     self.worse = next(((window + 1, cand) for cand in self.gainers(found)), None)
-                self.rounds.append(found)
+                self.rounds.append(found)  # type: ignore[arg-type]  # the replay asks a round for its seats alone
             elif self.papers.finals != self.admitted():
                 self.broken = "FinalDiffers - -"
             self.cuts += 1
+        return ""
 
-    def gainers(self, found):
+    def gainers(self, found: Published) -> Iterator[int]:
         """The candidates whom the best round gives a better place than the published one, in the order of the register."""
         sought = {it.id: self.sought(it.id) for it in self.season.people}
         best = Round(self.season, self.seats(), sought).seats
@@ -291,14 +311,8 @@ class Audited(Office):
             if cand in best and (cand not in found.seats or codes.index(best[cand][0]) < codes.index(found.seats[cand][0])):
                 yield cand
 
-    def reply_to_list(self, *_):
-        pass
 
-    reply_to_why = reply_to_round = reply_to_choices = reply_to_state = reply_to_seat = reply_to_list
-    reply_to_cutoffs = reply_to_register = reply_to_answers = reply_to_list
-
-
-def broken_in(office, found):
+def broken_in(office: Office, found: Published) -> Iterator[str]:
     """The clauses that are broken in a round, in their order, each with the programme and the candidate that it names."""
     season, sought = office.season, {it.id: office.sought(it.id) for it in office.season.people}
     for cand, code, _ in found.rows:
@@ -308,7 +322,7 @@ def broken_in(office, found):
         if office.standing(it.id, office.cuts) in STAYS and it.id not in found.seats:
             yield f"Fell - {it.id}"
     for code, lists in found.lists.items():
-        named = {}
+        named: dict[int, list[str]] = {}
         for step, listed in lists.items():
             for cand in listed.admitted:
                 named.setdefault(cand, []).append(step)
@@ -320,17 +334,18 @@ def broken_in(office, found):
         yield from broken_in_lists(office, code, lists, [it for it in season.people if applies(it.id, code, sought, found.seats)])
 
 
-def applies(cand, code, sought, seats):
+def applies(cand: int, code: str, sought: dict[int, list[str]], seats: dict[int, Seat]) -> bool:
     """Whether a candidate seeks a programme and has no seat, or it, or one that is sought less."""
     own = sought[cand]
     return code in own and (cand not in seats or seats[cand][0] in own[own.index(code) :])
 
 
-def broken_in_lists(office, code, lists, applicants):
+def broken_in_lists(office: Office, code: str, lists: dict[str, Listed], applicants: list[Person]) -> Iterator[str]:
     """The clauses that are broken in the lists of one programme."""
     season, seats = office.season, office.seats()
-    merit, named = season.merit(code), set()
-    by_merit = sorted(applicants, key=lambda it: it.place(merit))
+    merit = season.merit(code)
+    named: set[int] = set()
+    by_merit = sorted(applicants, key=lambda it: it.rank(merit))
     for step, listed in lists.items():
         people = [it for it in by_merit if it.id not in named and (it.is_common(merit) if step in ("OPEN", "D") else it.category == step)]
         given = seats.get((code, step), 0)
@@ -345,16 +360,17 @@ def broken_in_lists(office, code, lists, applicants):
         named.update(listed.admitted)
 
 
-def broken_in_step(listed, people, seats, merit, protections):
+def broken_in_step(listed: Listed, people: list[Person], seats: int, merit: int, protections: Protections) -> Optional[tuple[str, Union[int, str]]]:
     """The first clause that is broken in a step whose people, best first, and seats are these, with the candidate that it names."""
     if (listed.seats, listed.candidates) != (seats, len(people)):
         return "WrongNumbers", "-"
-    persons, last = [], 0
+    persons: list[Person] = []
+    last = 0.0
     for cand in listed.admitted:
         person = next((it for it in people if it.id == cand), None)
-        if person is None or person.place(merit) < last:
+        if person is None or person.rank(merit) < last:
             return "NotCandidate", cand
-        last = person.place(merit)
+        last = person.rank(merit)
         persons.append(person)
     if len(persons) != min(seats, len(people)):
         return "WrongSize", "-"
@@ -368,14 +384,14 @@ def broken_in_step(listed, people, seats, merit, protections):
     return None
 
 
-def overtakes(person, persons, merit, protections):
+def overtakes(person: Person, persons: list[Person], merit: int, protections: Protections) -> bool:
     """Whether the persons with this one in the place of a worse one honour no less."""
     now = honoured(persons, protections)
-    worse = [it for it in persons if it.place(merit) > person.place(merit)]
+    worse = [it for it in persons if it.rank(merit) > person.rank(merit)]
     return any(honoured([person, *(other for other in persons if other is not it)], protections) >= now for it in worse)
 
 
-def honoured(people, protections):
+def honoured(people: Iterable[Person], protections: Protections) -> int:
     """How much people honour: of those with the same traits no more than there are protected seats can stand on one."""
     most, kinds = sum(protections), sorted(it.traits for it in people if it.traits)
     few = [it for _, same in itertools.groupby(kinds) for it in itertools.islice(same, most)]
@@ -385,7 +401,7 @@ def honoured(people, protections):
 # ---- the special round
 
 
-def special_of(office, lists, published):
+def special_of(office: Audited, lists: bytes, published: bytes) -> tuple[Season, Papers]:
     """The season that the final admissions left, and the papers of its one round; or the first fault of the lists, and then of the texts."""
     if office.cuts <= office.season.rounds:
         raise Fault(f"special NotFinal now {office.cuts}")
@@ -399,7 +415,7 @@ def special_of(office, lists, published):
 # ---- the verdict
 
 
-def read(given):
+def read(given: bytes) -> tuple[Season, list[list[str]], Papers, Optional[tuple[bytes, bytes]]]:
     """A season, its script and its papers, and the lists and the texts of the special round behind them, if there is one."""
     bundle, requests, published = parts_of(given)
     season = season_of(bundle)
@@ -411,10 +427,11 @@ def read(given):
         behind = special_parts_of(published)
         if not behind:
             raise
-    return season, rows, papers_of(season, cuts, behind[0]), behind[1:]
+    of_season, lists, special = behind
+    return season, rows, papers_of(season, cuts, of_season), (lists, special)
 
 
-def replayed(season, rows, papers, is_best):
+def replayed(season: Season, rows: list[list[str]], papers: Papers, is_best: bool) -> Audited:
     """The office after the rows of a script, or at the first clause that is broken."""
     office = Audited(season, papers, is_best)
     for row in rows:
@@ -424,7 +441,7 @@ def replayed(season, rows, papers, is_best):
     return office
 
 
-def second_line(office, special):
+def second_line(office: Audited, special: Optional[Audited]) -> tuple[bytes, int]:
     """The second line: whether each round is the best one, the special round last; and the status."""
     if office.worse:
         return b"not best round %d %d\n" % (office.worse[0], int(office.worse[1])), 10
@@ -433,7 +450,7 @@ def second_line(office, special):
     return b"best\n", 0
 
 
-def judged(given, is_best):
+def judged(given: bytes, is_best: bool) -> tuple[bytes, int]:
     """The verdict on bytes that have no fault, and maybe the second one."""
     season, rows, papers, behind = read(given)
     office, special = replayed(season, rows, papers, is_best), None
@@ -449,7 +466,7 @@ def judged(given, is_best):
     return sound + second, status
 
 
-def verdict(given, is_best=False):
+def verdict(given: bytes, is_best: bool = False) -> tuple[bytes, int]:
     """What the audit of a dossier comes to: its line, and the status; with a second line on whether each round is the best one, where that is asked."""
     try:
         return judged(given, is_best)

@@ -6,14 +6,24 @@ import re
 import runpy
 import subprocess
 import sys
+from typing import Callable, Iterable, Iterator, Mapping, Optional, Sequence, TYPE_CHECKING, Union
 
 from cases import SECONDS, called, first_difference
 from plain_audit import MOST_INPUT, applies, verdict
-from plain_office import STEPS, Office, Season, certificate
-from plain_special import drawn_lists, drawn_season, read_lists, season_left
+from plain_office import Answer, Office, Person, Raise, STEPS, Season, Seat, StepList, certificate
+from plain_special import Choices, InOrder, Item, drawn_lists, drawn_season, read_lists, season_left
 
 TOP = os.path.dirname(os.path.dirname(os.path.realpath(__file__)))
-OF_BUNDLE = runpy.run_path(f"{TOP}/tools/dossier")["of_bundle"]
+OF_BUNDLE: Callable[[Callable[[list[str], bytes], tuple[bytes, Optional[int]]], bytes], bytes] = runpy.run_path(f"{TOP}/tools/dossier")["of_bundle"]
+
+if TYPE_CHECKING:
+    from plain_trials import Draw
+
+# the seats of a round by candidate, and its lists by programme
+Seats = dict[int, Seat]
+Lists = Mapping[str, Sequence[Union[StepList, "Made"]]]
+# a dossier: its label, its bytes, the plain auditor's verdict on them, and the status
+Judged = tuple[str, bytes, bytes, int]
 
 # ---- dossiers that can be damaged
 
@@ -21,10 +31,12 @@ OF_BUNDLE = runpy.run_path(f"{TOP}/tools/dossier")["of_bundle"]
 class Dossier:
     """A dossier that can be damaged: the season and its script, and what the plain office published for it."""
 
-    def __init__(self, text):
+    def __init__(self, text: str) -> None:
         season, _, script = text.partition("[requests]\n")
         self.bundle, self.requests = season, script
-        self.season, self.before = Season(season), []
+        self.season = Season(season)
+        # the office before each cut: how many cuts there were, the answers and the raises
+        self.before: list[tuple[int, list[Answer], list[Raise]]] = []
         office = Office(self.season)
         for row in filter(None, script.split("\n")):
             if row.startswith("cut,clerk") and office.cuts <= self.season.rounds:
@@ -35,18 +47,18 @@ class Dossier:
         self.texts = [self.round_lines(at, *it) for at, it in enumerate(self.rounds)]
         self.last = office.published_text(self.season.rounds + 1).split("\n")[:-1] if office.cuts > self.season.rounds else []
 
-    def round_lines(self, at, seats, lists):
+    def round_lines(self, at: int, seats: Seats, lists: Lists) -> list[str]:
         rows = [f"allot {cand} {code} {step}" for cand, (code, step) in sorted(seats.items())]
         return [f"round {at + 1} seated {len(rows)}", *rows, "end round", *(line for code in self.season.programmes for line in list_lines(at + 1, code, lists[code]))]
 
-    def published(self):
+    def published(self) -> list[str]:
         return [*(line for lines in self.texts for line in lines), *self.last]
 
-    def given(self, lines=None):
+    def given(self, lines: Optional[list[str]] = None) -> bytes:
         lines = self.published() if lines is None else lines
         return f"{self.bundle}[requests]\n{self.requests}[published]\n{''.join(f'{it}{chr(10)}' for it in lines)}".encode()
 
-    def with_seats(self, at, seats):
+    def with_seats(self, at: int, seats: Seats) -> bytes:
         """The same with other seats in a round, and its lists made anew for them."""
         office = Office(self.season)
         office.cuts, office.answers, office.raises = self.before[at]
@@ -59,7 +71,7 @@ class Dossier:
 class Special(Dossier):
     """The dossier of a season that is over, with the special round behind it, which can be damaged: the season that the final admissions left, and what the plain office publishes for it."""
 
-    def __init__(self, dossier, lists, choices):
+    def __init__(self, dossier: Dossier, lists: str, choices: Choices) -> None:
         self.front, self.handed_in = dossier.given(), lists
         self.season, self.before, self.last = season_left(dossier.office, choices), [(0, [], [])], []
         self.office = Office(self.season)
@@ -67,12 +79,12 @@ class Special(Dossier):
         self.rounds = [(dict(it.seats), {code: [*lists] for code, lists in it.lists.items()}) for it in self.office.rounds]
         self.texts = [self.round_lines(at, *it) for at, it in enumerate(self.rounds)]
 
-    def given(self, lines=None):
+    def given(self, lines: Optional[list[str]] = None) -> bytes:
         lines = self.published() if lines is None else lines
         return self.front + f"[lists]\n{self.handed_in}[special]\n{''.join(f'{it}{chr(10)}' for it in lines)}".encode()
 
 
-def list_lines(number, code, lists):
+def list_lines(number: int, code: str, lists: Iterable[Union[StepList, "Made"]]) -> Iterator[str]:
     yield f"list {number} {code}"
     for it in lists:
         yield f"step {it.step} seats {it.seats} candidates {it.candidates} admitted {len(it.admitted)}"
@@ -84,14 +96,16 @@ def list_lines(number, code, lists):
 class Made:
     """A step made anew for those who have its seats."""
 
-    def __init__(self, step, seats, candidates, admitted, letters):
+    def __init__(self, step: str, seats: int, candidates: int, admitted: list[Person], letters: list[str]) -> None:
         self.step, self.seats, self.candidates, self.admitted, self.letters = step, seats, candidates, admitted, letters
 
 
-def lists_for(season, given, code, sought, seats):
+def lists_for(season: Season, given: Mapping[Seat, int], code: str, sought: dict[int, list[str]], seats: Seats) -> Iterator[Made]:
     """The lists of a programme that name those who have its seats, by merit and with the best certificate, and with numbers as they come to then."""
-    merit, named, held = season.merit(code), set(), {}
-    by_merit = sorted((it for it in season.people if it.place(merit)), key=lambda it: it.place(merit))
+    merit = season.merit(code)
+    named: set[int] = set()
+    held: dict[str, int] = {}
+    by_merit = sorted((it for it in season.people if it.place(merit)), key=lambda it: it.rank(merit))
     for step in STEPS:
         people = [it for it in by_merit if applies(it.id, code, sought, seats) and it.id not in named and (it.is_common(merit) if step in ("OPEN", "D") else it.category == step)]
         admitted = [it for it in by_merit if tuple(seats.get(it.id, ())) == (code, step)]
@@ -104,28 +118,33 @@ def lists_for(season, given, code, sought, seats):
         yield Made(step, count, len(people), admitted, letters)
 
 
-def one_of(draw, items):
-    items = [*items]
-    return items[draw.below(len(items))] if items else None
+def one_of(draw: "Draw", items: Iterable[Item]) -> Item:
+    known = [*items]
+    return known[draw.below(len(known))]
+
+
+def one_if_any(draw: "Draw", items: Iterable[Item]) -> Optional[Item]:
+    known = [*items]
+    return one_of(draw, known) if known else None
 
 
 # ---- the damages; each gives the bytes of a damaged dossier, or None where there is nothing of its kind
 
 
-def nothing(draw, dossier):
+def nothing(draw: "Draw", dossier: Dossier) -> bytes:
     return dossier.given()
 
 
-def quoted(draw, dossier):
+def quoted(draw: "Draw", dossier: Dossier) -> bytes:
     """Some fields of the bundle and of the requests are in quotes, as a spreadsheet or `units` writes them; nothing else changes."""
-    def in_quotes(line):
+    def in_quotes(line: str) -> str:
         return line if line.startswith(("[", "office")) or not line else ",".join(f'"{it}"' if draw.below(2) else it for it in line.split(","))
 
     dossier.bundle, dossier.requests = ("\n".join(map(in_quotes, it.split("\n"))) for it in (dossier.bundle, dossier.requests))
     return dossier.given()
 
 
-def seats_changed(draw, dossier):
+def seats_changed(draw: "Draw", dossier: Dossier) -> Optional[bytes]:
     """One seat of a round is given, taken, handed on, exchanged or listed under another step; the lists are made anew."""
     at = draw.below(len(dossier.texts) or 1)
     if not dossier.texts:
@@ -146,7 +165,7 @@ def seats_changed(draw, dossier):
     return dossier.with_seats(at, seats)
 
 
-def round_changed(draw, dossier):
+def round_changed(draw: "Draw", dossier: Dossier) -> Optional[bytes]:
     """A round's text gives somebody another seat, or none, and the lists stay."""
     if not dossier.texts:
         return None
@@ -162,20 +181,20 @@ def round_changed(draw, dossier):
     return dossier.given()
 
 
-def best_handed_on(draw, dossier):
+def best_handed_on(draw: "Draw", dossier: Dossier) -> Optional[bytes]:
     """A seat goes to somebody worse who wants it too; the lists are made anew."""
     if not dossier.texts:
         return None
     at = draw.below(len(dossier.texts))
     seats = dict(dossier.rounds[at][0])
-    one = one_of(draw, seats)
-    other = one_of(draw, [it.id for it in dossier.season.people if it.id not in seats and one and seats[one][0] in dossier.season.choices.get(it.id, [])])
-    if other:
+    one = one_if_any(draw, seats)
+    other = one_if_any(draw, [it.id for it in dossier.season.people if it.id not in seats and one and seats[one][0] in dossier.season.choices.get(it.id, [])])
+    if one and other:
         seats[other] = seats.pop(one)
     return dossier.with_seats(at, seats)
 
 
-def nobody_stays(draw, dossier):
+def nobody_stays(draw: "Draw", dossier: Dossier) -> Optional[bytes]:
     """Somebody has no seat any more, and the lists are made anew; where somebody else can have it, that one has."""
     at = draw.below(len(dossier.texts) or 1)
     if len(dossier.texts) < 2 or not at or not dossier.rounds[at][0]:
@@ -185,7 +204,7 @@ def nobody_stays(draw, dossier):
     return dossier.with_seats(at, seats)
 
 
-def line_changed(draw, dossier):
+def line_changed(draw: "Draw", dossier: Dossier) -> Optional[bytes]:
     """A line is left out, told twice, moved, or has one of its words changed."""
     lines = dossier.published()
     if not lines:
@@ -205,17 +224,17 @@ def line_changed(draw, dossier):
     return dossier.given(lines)
 
 
-def cut_short(draw, dossier):
+def cut_short(draw: "Draw", dossier: Dossier) -> Optional[bytes]:
     """The end is missing, or there is more."""
     given = dossier.given()
     start = given.index(b"[published]\n") + 12
     return given[: start + draw.below(len(given) - start + 1)] + (b"", b"x", b"\n")[draw.below(3)]
 
 
-def number_changed(draw, dossier):
+def number_changed(draw: "Draw", dossier: Dossier) -> Optional[bytes]:
     """The seats or the candidates of a listed step are other ones."""
     lines = dossier.published()
-    at = one_of(draw, [at for at, it in enumerate(lines) if it.startswith("step ")])
+    at = one_if_any(draw, [at for at, it in enumerate(lines) if it.startswith("step ")])
     if at is None:
         return None
     parts = lines[at].split(" ")
@@ -225,10 +244,10 @@ def number_changed(draw, dossier):
     return dossier.given(lines)
 
 
-def letter_changed(draw, dossier):
+def letter_changed(draw: "Draw", dossier: Dossier) -> Optional[bytes]:
     """Who is listed fills another position, or none, or one more."""
     lines = dossier.published()
-    at = one_of(draw, [at for at, it in enumerate(lines) if re.fullmatch(r"\d+ \S", it)])
+    at = one_if_any(draw, [at for at, it in enumerate(lines) if re.fullmatch(r"\d+ \S", it)])
     if at is None:
         return None
     cand, letter = lines[at].split(" ")
@@ -239,17 +258,17 @@ def letter_changed(draw, dossier):
     return dossier.given(lines)
 
 
-def order_changed(draw, dossier):
+def order_changed(draw: "Draw", dossier: Dossier) -> Optional[bytes]:
     """Two who are listed next to each other have changed places."""
     lines = dossier.published()
-    at = one_of(draw, [at for at in range(len(lines) - 1) if all(re.fullmatch(r"\d+ \S", it) for it in lines[at : at + 2])])
+    at = one_if_any(draw, [at for at in range(len(lines) - 1) if all(re.fullmatch(r"\d+ \S", it) for it in lines[at : at + 2])])
     if at is None:
         return None
     lines[at : at + 2] = lines[at + 1], lines[at]
     return dossier.given(lines)
 
 
-def final_changed(draw, dossier):
+def final_changed(draw: "Draw", dossier: Dossier) -> Optional[bytes]:
     """A final row is missing, or has another seat."""
     rows = dossier.last[1:-1]
     if not rows:
@@ -264,7 +283,7 @@ def final_changed(draw, dossier):
     return dossier.given()
 
 
-def season_changed(draw, dossier):
+def season_changed(draw: "Draw", dossier: Dossier) -> Optional[bytes]:
     """The register, the matrix, a choice list or a request is another one than that for which the texts were published."""
     text = dossier.bundle + "[requests]\n" + dossier.requests
     lines = text.split("\n")
@@ -285,7 +304,7 @@ def season_changed(draw, dossier):
     return dossier.given()
 
 
-def season_broken(draw, dossier):
+def season_broken(draw: "Draw", dossier: Dossier) -> Optional[bytes]:
     """The bundle or the requests have a fault, or one of the marks between the parts is not there."""
     given = dossier.given()
     old, new = one_of(draw, (
@@ -307,14 +326,15 @@ def season_broken(draw, dossier):
     return given.replace(old, new, 1)
 
 
-DAMAGES = (nothing, quoted, seats_changed, seats_changed, round_changed, best_handed_on, best_handed_on, nobody_stays, line_changed, line_changed, cut_short, number_changed, letter_changed, order_changed, final_changed, season_changed, season_broken)
+Damage = Callable[["Draw", Dossier], Optional[bytes]]
+DAMAGES: tuple[Damage, ...] = (nothing, quoted, seats_changed, seats_changed, round_changed, best_handed_on, best_handed_on, nobody_stays, line_changed, line_changed, cut_short, number_changed, letter_changed, order_changed, final_changed, season_changed, season_broken)
 CLAUSES = ("NotSought", "Fell", "Unlisted", "WrongNumbers", "NotCandidate", "WrongSize", "BadCertificate", "Overtaken", "FinalDiffers")
-DAMAGES_OF_SPECIAL = (nothing, seats_changed, seats_changed, round_changed, best_handed_on, best_handed_on, line_changed, cut_short, number_changed, letter_changed, order_changed)
+DAMAGES_OF_SPECIAL: tuple[Damage, ...] = (nothing, seats_changed, seats_changed, round_changed, best_handed_on, best_handed_on, line_changed, cut_short, number_changed, letter_changed, order_changed)
 CLAUSES_OF_SPECIAL = tuple(it for it in CLAUSES if it not in ("Fell", "FinalDiffers"))
 FAULTS = ("dossier NoSection", "bundle NotUtf8", "bundle BadFirstLine", "bundle line", "season row", "choices row", "requests row", "published line", "special NotFinal", "special row", "special line")
 
 
-def drawn_dossiers(draw, in_order, seasons, count):
+def drawn_dossiers(draw: "Draw", in_order: InOrder, seasons: int, count: int) -> list[Judged]:
     """From each of some seasons so many dossiers, each damaged in one place or in none, with what the plain auditor says of them."""
     found = []
     for number in range(seasons):
@@ -326,7 +346,7 @@ def drawn_dossiers(draw, in_order, seasons, count):
     return found
 
 
-def drawn_specials(draw, in_order, seasons, count):
+def drawn_specials(draw: "Draw", in_order: InOrder, seasons: int, count: int) -> list[Judged]:
     """The same with a special round behind each season, which is damaged in one place or in none; now and then the season is not over, or the lists have a fault."""
     found = []
     for number in range(seasons):
@@ -342,7 +362,7 @@ def drawn_specials(draw, in_order, seasons, count):
     return found
 
 
-def lacking(dossiers):
+def lacking(dossiers: list[Judged]) -> Optional[str]:
     """Which clause or fault none of the dossiers has."""
     told = [wrote.decode() for _, _, wrote, _ in dossiers]
     lost = [f"special {it}" for it in CLAUSES_OF_SPECIAL if not any(f"broken special {it} " in line for line in told)]
@@ -353,18 +373,18 @@ def lacking(dossiers):
 # ---- the trials
 
 
-def fault_of_audit(program, label, given, told, status):
+def fault_of_audit(program: str, label: str, given: bytes, told: bytes, status: int) -> Optional[str]:
     """Why the program's verdict is not the plain one, or None."""
     found = called(program, ["audit"], given, "/")
     return None if found == (told, status) else f"{label}: audit ended with status {found[1]}: {first_difference(found[0], told)}"
 
 
-def fault_of_length(program):
+def fault_of_length(program: str) -> Optional[str]:
     """Why a dossier with one byte more than may be read is not refused for it, or None."""
     return fault_of_audit(program, "a dossier that is too long", b"\n" * (MOST_INPUT + 1), b"fault: dossier TooLong\n", 3)
 
 
-def fault_of_generated(program, count, seed, plainly):
+def fault_of_generated(program: str, count: int, seed: int, plainly: bool) -> Optional[str]:
     """Why the dossier of a generated season, as tools/dossier makes it of what the program publishes, is not sound, or None. The plain auditor is asked too."""
     bundle, _ = called(program, ["generate", str(count), str(seed), "text"], b"", "/")
     given = OF_BUNDLE(lambda words, it: called(program, words, it, "/"), bundle)
@@ -376,7 +396,8 @@ def fault_of_generated(program, count, seed, plainly):
 
 def without_lists(lines: list[str]) -> list[str]:
     """Returns the lines of published texts that belong to rounds and to final admissions."""
-    kept, inside = [], False
+    kept: list[str] = []
+    inside = False
     for line in lines:
         inside = inside or line.startswith(("round ", "final "))
         kept += [line] if inside else []
@@ -384,7 +405,7 @@ def without_lists(lines: list[str]) -> list[str]:
     return kept
 
 
-def fault_of_own(program: str, label: str, given: bytes) -> str | None:
+def fault_of_own(program: str, label: str, given: bytes) -> Optional[str]:
     """Returns why a dossier that the program calls sound and best has other rounds or final admissions than the plain office publishes for it, or None."""
     wrote, status = called(program, ["audit", "best"], given, "/")
     if status:
@@ -395,7 +416,7 @@ def fault_of_own(program: str, label: str, given: bytes) -> str | None:
     return None if own == found else f"{label}: {wrote.decode().split()} of rounds and final admissions that are not the office's"
 
 
-def fault_of_divided(program):
+def fault_of_divided(program: str) -> Optional[str]:
     """Why the dossier of examples/two-states with all its cuts and a question of each kind is not sound and best by both auditors, or None."""
     with open(f"{TOP}/examples/two-states/divided.txt", "rb") as it:
         asked = b"seat,1,1\nchoices,1,1\nregister,1,1\nanswers,1,1\nwhy,3,3,N-HS\nlist,nobody,1,N-HS\ncutoffs,nobody,1,N-OS\nround,nobody,1\nstate,nobody\n"
@@ -410,7 +431,7 @@ def fault_of_divided(program):
     return None if found == by_command == told else f"the dossier of two-states: audit best says {found}, and the plain auditor as a command {by_command}"
 
 
-def trials(program, dossiers, seasons):
+def trials(program: str, dossiers: Iterable[Judged], seasons: Iterable[tuple[int, int]]) -> Iterator[Callable[[], Optional[str]]]:
     """What is tried, each a call that gives a fault or None: the verdict on each of these dossiers, that those which are sound and best have the office's own rounds,
     and that the dossiers of seasons that are generated from these numbers are sound."""
     yield functools.partial(fault_of_divided, program)

@@ -4,16 +4,30 @@ The seats that are left are made by taking them away one by one, final row after
 each row of the de-reserved step takes one of OBC while one is left there, and else one of EWS. It serves for a handful of candidates, as the plain office does."""
 import copy
 import csv
+from typing import Optional, Protocol, Sequence, TypeVar, TYPE_CHECKING
 
-from plain_office import STEPS, TRAITS, Office, Round, Season, certificate, cutoffs_text, list_text
+from plain_office import Office, Protections, Round, STEPS, Season, Seat, TRAITS, certificate, cutoffs_text, list_text
 
+if TYPE_CHECKING:
+    from plain_trials import Draw
+
+Item = TypeVar("Item")
+# choice lists by candidate
+Choices = dict[int, list[str]]
 MOST_ROW_CHOICES = 1000
 LAST_ID = 999_999_999
+
+
+class InOrder(Protocol):
+    """Returns items in the order of a number, each order having one."""
+
+    def __call__(self, items: Sequence[Item], number: int) -> list[Item]: ...
+
 
 # ---- what is left of the seats and the protections
 
 
-def seats_left(office):
+def seats_left(office: Office) -> dict[Seat, int]:
     """The seats of each step that the final rows leave."""
     left = dict(office.seats())
     finals = office.admitted()
@@ -26,14 +40,16 @@ def seats_left(office):
     return left
 
 
-def protections_left(office, left):
+def protections_left(office: Office, left: dict[Seat, int]) -> dict[Seat, Protections]:
     """The protections of each step that the certificate of its final persons leaves, as far as there are seats."""
-    season, found = office.season, {}
+    season = office.season
+    found: dict[Seat, Protections] = {}
     for (code, step), old in season.protections.items():
         merit = season.merit(code)
-        persons = sorted((season.person(cand) for cand, *seat in office.admitted() if tuple(seat) == (code, step)), key=lambda it: it.place(merit))
+        persons = sorted((season.registered(cand) for cand, *seat in office.admitted() if tuple(seat) == (code, step)), key=lambda it: it.rank(merit))
         letters = certificate(tuple(it.traits for it in persons), old)
-        room, kept = left[code, step], []
+        room = left[code, step]
+        kept: list[int] = []
         for trait, count in zip(TRAITS, old):
             kept.append(max(min(count - letters.count(trait), room), 0))
             room -= kept[-1]
@@ -41,7 +57,7 @@ def protections_left(office, left):
     return found
 
 
-def season_left(office, choices):
+def season_left(office: Office, choices: Choices) -> Season:
     """The season of one round that is left, with these lists."""
     season = copy.copy(office.season)
     season.rounds, season.choices = 1, choices
@@ -53,7 +69,7 @@ def season_left(office, choices):
 # ---- the lists
 
 
-def rows_of(lists):
+def rows_of(lists: str) -> list[list[str]]:
     """The rows of lists, without the empty fields at their ends and without rows that are empty then."""
     found = []
     for row in csv.reader(lists.split("\n")):
@@ -64,7 +80,7 @@ def rows_of(lists):
     return found
 
 
-def kind_of(season, known, row):
+def kind_of(season: Season, known: Choices, row: list[str]) -> Optional[str]:
     """What is wrong with a row after the lists that are known, or None."""
     cand = int(row[0]) if row[0].isdigit() and row[0] == str(int(row[0])) and int(row[0]) <= LAST_ID else 0
     person = season.person(cand)
@@ -84,32 +100,33 @@ def kind_of(season, known, row):
     return None
 
 
-def read_lists(office, lists):
-    """The choices that lists spell, or the line of their fault."""
-    known, rows = {}, rows_of(lists)
+def read_lists(office: Office, lists: str) -> tuple[Choices, Optional[str]]:
+    """The choices that lists spell, or none and the line of their fault."""
+    known: Choices = {}
+    rows = rows_of(lists)
     if not rows or rows[0] != ["candidate", "programmes"]:
-        return None, "fault: choices row 1 BadHeader\n"
+        return {}, "fault: choices row 1 BadHeader\n"
     for number, row in enumerate(rows[1:], 2):
         kind = kind_of(office.season, known, row)
         if kind:
-            return None, f"fault: choices row {number} {kind}\n"
+            return {}, f"fault: choices row {number} {kind}\n"
         known[int(row[0])] = row[1:]
     admitted = {cand for cand, *_ in office.admitted()}
     for number, row in enumerate(rows[1:], 2):
         if int(row[0]) in admitted:
-            return None, f"fault: special row {number} Admitted\n"
+            return {}, f"fault: special row {number} Admitted\n"
     return known, None
 
 
 # ---- the round
 
 
-def listed(season, made):
+def listed(season: Season, made: Round) -> str:
     """The list and the cutoffs of each programme in a special round, as the office's replies spell them."""
     return "".join(list_text(1, code, found) + cutoffs_text(1, code, found, season.merit(code)) for code, found in made.lists.items())
 
 
-def special_text(office, lists, with_lists=False):
+def special_text(office: Office, lists: str, with_lists: bool = False) -> tuple[str, bool]:
     """What the command on an office's records writes for these lists, alone or with the list and the cutoffs of each programme, and whether that is a fault."""
     if office.cuts <= office.season.rounds:
         return f"fault: special NotFinal now {office.cuts}\n", True
@@ -125,7 +142,7 @@ def special_text(office, lists, with_lists=False):
     return f"special seats {vacant} seated {seated}\nround 1 seated {seated}\n{rows}end round\n{papers}", False
 
 
-def wrongs_of(office, lists):
+def wrongs_of(office: Office, lists: str) -> list[str]:
     """What is wrong with the special round by its promises: nobody with a final row has a seat of it, and no programme gives more seats than it has."""
     choices, fault = read_lists(office, lists)
     if fault:
@@ -143,7 +160,7 @@ def wrongs_of(office, lists):
     return said
 
 
-def office_after(text):
+def office_after(text: str) -> Office:
     """The office after the requests of a bundle with its script."""
     season, _, script = text.partition("[requests]\n")
     office = Office(Season(season))
@@ -155,7 +172,7 @@ def office_after(text):
 # ---- drawn seasons that are over
 
 
-def drawn_season(draw, in_order):
+def drawn_season(draw: "Draw", in_order: InOrder) -> str:
     """A bundle with a script to its end: two programmes, in which categories leave seats, with protections, and maybe a raise. In each window somebody asks for
     what the next cut publishes, before it and after it, and for a choice list."""
     rounds, people = draw.below(2) + 1, 7
@@ -185,7 +202,7 @@ def drawn_season(draw, in_order):
     return text
 
 
-def drawn_lists(draw, in_order, office):
+def drawn_lists(draw: "Draw", in_order: InOrder, office: Office) -> str:
     """Lists of those without a final row, and now and then a row of somebody with one."""
     admitted = {cand for cand, *_ in office.admitted()}
     text = "candidate,programmes\n"
