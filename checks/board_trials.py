@@ -38,13 +38,13 @@ KINDS = {
 GUESSED = ("application number", "category", "gender", "disability", "state", "m1", "m1 EWS", "m1 OBC", "m1 SC", "m1 ST", "m1 PwD", "institute name", "programme name", "quota", "pool", "OPEN PwD", "total", "preference")
 
 
-def season(*words: str) -> tuple:
+def season(*words: str) -> tuple[bytes, str, int]:
     """Runs tools/season; returns its output, what it said, and its status."""
     ran = subprocess.run([sys.executable, f"{TOP}/tools/season", *words], capture_output=True, timeout=cases.SECONDS)
     return ran.stdout, ran.stderr.decode(errors="replace"), ran.returncode
 
 
-def rows_of(path: str) -> list:
+def rows_of(path: str) -> list[list[str]]:
     with open(path, encoding="utf-8-sig", newline="") as it:
         return [*csv.reader(it)]
 
@@ -118,7 +118,7 @@ def with_one_more(room: str, before: bytes) -> Iterator[str]:
         yield f"examples/board-sheets: with one candidate more the status is {status}, and lines are lost: {[*lost][:2]} {said[-200:]}"
 
 
-def put_xlsx(path: str, rows: list) -> None:
+def put_xlsx(path: str, rows: list[list[str]]) -> None:
     """Writes a workbook with a sheet of remarks in front; numbers are numbers there, as a spreadsheet program makes them."""
     book = books.library(".xlsx").Workbook()
     book.active.append(["remarks"])
@@ -128,7 +128,7 @@ def put_xlsx(path: str, rows: list) -> None:
     book.save(path)
 
 
-def put_ods(path: str, rows: list) -> None:
+def put_ods(path: str, rows: list[list[str]]) -> None:
     """Writes a workbook of LibreOffice's kind, with empty cells and rows that are repeated at the ends."""
     kinds, found = {True: "float", False: "string"}, books.library(".ods").OpenDocumentSpreadsheet()
     table, text = importlib.import_module("odf.table"), importlib.import_module("odf.text")
@@ -208,12 +208,16 @@ def guesses() -> Iterator[str]:
 # ---- spoiled sheets
 
 
+# from the bytes of a file to other ones, or to None where the file is removed
+Change = Callable[[bytes], Optional[bytes]]
+
+
 class Spoiled(NamedTuple):
     """A change of the confirmed example: its file, what is done to its bytes, and what has to be said."""
 
     name: str
     file: str
-    change: Callable
+    change: Change
     says: str
     status: int = 3
 
@@ -234,7 +238,7 @@ def whole(file: str, name: str, data: Optional[bytes], says: str, status: int = 
     return Spoiled(f"{file}: {name}", file, lambda _: data, says, status)
 
 
-def bytewise(file: str, name: str, change: Callable, says: str, status: int = 3) -> Spoiled:
+def bytewise(file: str, name: str, change: Change, says: str, status: int = 3) -> Spoiled:
     return Spoiled(f"{file}: {name}", file, change, says, status)
 
 
@@ -293,7 +297,7 @@ def of_files() -> Iterator[Spoiled]:
     yield whole("register.xlsx", "beside register.csv", b"x", "register.csv is read, and not register.xlsx", 0)
 
 
-def fault_of_spoiled(it: Spoiled, confirmed: dict) -> Optional[str]:
+def fault_of_spoiled(it: Spoiled, confirmed: dict[str, bytes]) -> Optional[str]:
     """Why a spoiled sheet is not refused in words, or None."""
     with tempfile.TemporaryDirectory(prefix="board-", dir=cases.ROOMS) as room:
         for name, data in confirmed.items():
@@ -316,7 +320,7 @@ def fault_of_spoiled(it: Spoiled, confirmed: dict) -> Optional[str]:
     return None
 
 
-def spoiled() -> list:
+def spoiled() -> list[Callable[[], Optional[str]]]:
     """Returns a call for each spoiled sheet."""
     with tempfile.TemporaryDirectory(prefix="board-", dir=cases.ROOMS) as room:
         walked(room, False)
@@ -333,7 +337,10 @@ def spoiled() -> list:
 def fault_of_season(program: str, with_quotas: bool) -> Optional[str]:
     """Why the program does not take the season of the example through its rounds, or None."""
     label, words = (f"examples/board-sheets{' with quotas' if with_quotas else ''}", ["units" if with_quotas else "run", "memory"])
-    call = lambda words, given: cases.called(program, words, given, "/")
+
+    def call(words: list[str], given: bytes) -> tuple[bytes, Optional[int]]:
+        return cases.called(program, words, given, "/")
+
     with tempfile.TemporaryDirectory(prefix="board-", dir=cases.ROOMS) as room:
         bundle = walked(room, with_quotas)
         given = with_answers(lambda given: call(words, given)[0], bundle)
@@ -350,7 +357,7 @@ def fault_of_season(program: str, with_quotas: bool) -> Optional[str]:
 ANSWERS = {**dict.fromkeys("02468", "float"), "1": "freeze", "3": "slide", "5": "withdraw", "7": "freeze"}
 
 
-def with_answers(told: Callable, bundle: bytes) -> bytes:
+def with_answers(told: Callable[[bytes], bytes], bundle: bytes) -> bytes:
     """Returns the bundle with the requests of its three rounds; most candidates answer their first offer, and some are no-shows."""
     given, seen = bundle + b"[requests]\n", set()
     for window in range(4):
@@ -382,8 +389,8 @@ def fault_of_papers(room: str, label: str, dossier: bytes) -> Optional[str]:
     letters = [row[3:5] for row in rows]
     if sorted(letters) != sorted([it["application_number"], it["name"]] for it in seats):
         return f"tools/letters, {label}: status {status}, {letters[:2]}: {said[-200:]}"
-    own = {row[1]: {f"{it.replace(',', '')} in {name}" for name, it in zip(SHEET_RANKS, row[8:14]) if it} for row in rows_of(f"{room}/register.csv") if len(row) > 13}
-    strange = [(row[3], row[header.index("Rank")]) for row in rows if row[header.index("Rank")] not in own[row[3]]]
+    ranks = {row[1]: {f"{it.replace(',', '')} in {name}" for name, it in zip(SHEET_RANKS, row[8:14]) if it} for row in rows_of(f"{room}/register.csv") if len(row) > 13}
+    strange = [(row[3], row[header.index("Rank")]) for row in rows if row[header.index("Rank")] not in ranks[row[3]]]
     return f"tools/letters, {label}: a letter has a rank that the sheet has not: {strange[:2]}" if strange else None
 
 
@@ -418,12 +425,12 @@ def fault_of_mock(program: str, bundle: bytes, replies: bytes) -> Optional[str]:
     return None if mock in replies and count >= 10 else f"deploy/papers --mock of examples/board-sheets: {count} files, and {mock[:60]!r} is not round 1"
 
 
-def faults() -> list:
+def faults() -> list[str]:
     """Returns all that is looked at without a program, but for the spoiled sheets."""
     return [*guesses(), *walks(), *in_books(), *without_library()]
 
 
-def trials(program: str) -> Iterator[Callable]:
+def trials(program: str) -> Iterator[Callable[[], Optional[str]]]:
     """Gives what is tried over a program."""
     for with_quotas in KINDS:
         yield functools.partial(fault_of_season, program, with_quotas)

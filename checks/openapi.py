@@ -5,6 +5,7 @@ Where the machine has `openapi_spec_validator` the document as a whole is asked 
 import functools
 import json
 import re
+from typing import Any, Iterator, Optional
 
 from plain_http import PHRASES, Served, message, reply_bytes
 
@@ -13,34 +14,42 @@ SEASON = "examples/five-candidates/bundle.txt"
 EXAMPLES = "\n### Each route by an example\n"
 # what a schema may say here, besides words for people
 SAYS = {"$ref", "type", "const", "enum", "minimum", "maximum", "pattern", "properties", "required", "additionalProperties", "oneOf", "anyOf", "description", "examples", "items", "maxItems", "uniqueItems"}
-KINDS = {"object": dict, "array": list, "string": str, "integer": int, "null": type(None)}
+# a schema, a reply or another part of the document, and a value of JSON
+Part = dict[str, Any]
+KINDS: dict[str, type] = {"object": dict, "array": list, "string": str, "integer": int, "null": type(None)}
+
+# a refusal: its number, its name, its status and its key
+Refusal = tuple[int, str, Optional[int], str]
+# an example of a route: method, path, token and body of the request, status and body of the reply
+Example = tuple[str, str, Optional[str], bytes, int, bytes]
 
 
-def text_of(path):
+def text_of(path: str) -> str:
     with open(path, encoding="utf-8") as it:
         return it.read()
 
 
 @functools.lru_cache(maxsize=None)
-def document():
-    return json.loads(text_of(PATH))
+def document() -> Part:
+    found: Part = json.loads(text_of(PATH))
+    return found
 
 
 # ---- schemas
 
 
-def target(reference):
+def target(reference: str) -> Part:
     found = document()
     for name in reference.removeprefix("#/").split("/"):
         found = found[name]
     return found
 
 
-def resolved(part):
+def resolved(part: Part) -> Part:
     return target(part["$ref"]) if "$ref" in part else part
 
 
-def why_not(schema, value):
+def why_not(schema: Part, value: Any) -> Optional[str]:
     """Why a value is not as a schema says, or None."""
     if "$ref" in schema:
         return why_not(target(schema["$ref"]), value)
@@ -63,7 +72,7 @@ def why_not(schema, value):
     return why_no_members(schema, value) if isinstance(value, dict) else None
 
 
-def why_no_items(schema, value):
+def why_no_items(schema: Part, value: list[Any]) -> Optional[str]:
     if len(value) > schema.get("maxItems", len(value)):
         return f"{value!r:.80} has too many items"
     if schema.get("uniqueItems") and len(value) > len(set(value)):
@@ -71,7 +80,7 @@ def why_no_items(schema, value):
     return next((why for it in value for why in [why_not(schema["items"], it)] if why), None)
 
 
-def why_no_members(schema, value):
+def why_no_members(schema: Part, value: Part) -> Optional[str]:
     known = schema.get("properties", {})
     lacking = [it for it in schema.get("required", []) if it not in value]
     more = [it for it in value if it not in known] if schema.get("additionalProperties") is False else []
@@ -80,7 +89,7 @@ def why_no_members(schema, value):
     return next((why for name, part in known.items() if name in value for why in [why_not(part, value[name])] if why), None)
 
 
-def unknown_words(part):
+def unknown_words(part: object) -> set[str]:
     """The words of a schema, and of the schemas in it, that are not read here."""
     if not isinstance(part, dict):
         return set()
@@ -91,21 +100,21 @@ def unknown_words(part):
 # ---- operations
 
 
-def operations():
+def operations() -> dict[tuple[str, str], Part]:
     """Each operation by its method and path."""
     return {(method.upper(), path): it for path, item in document()["paths"].items() for method, it in item.items() if not method.startswith("x-")}
 
 
 @functools.lru_cache(maxsize=None)
-def paths():
+def paths() -> list[tuple[re.Pattern[str], str]]:
     """What paths look like that are those of an operation."""
     return [(re.compile(re.sub(r"\\{\w+\\}", "[^/?]+", re.escape(path)) + r"(\?.*)?"), path) for path in document()["paths"]]
 
 
-def fault_of(method, path, status, body):
+def fault_of(method: str, path: str, status: int, body: bytes) -> Optional[str]:
     """Why the document does not have this reply to a request whose path names a route, or None."""
     route = next((it for like, it in paths() if like.fullmatch(path)), None)
-    operation = operations().get((method, route))
+    operation = operations().get((method, route or ""))
     if not operation:
         return f"{method} {path}: {PATH} has no such operation"
     told = operation["responses"].get(str(status))
@@ -118,16 +127,18 @@ def fault_of(method, path, status, body):
     return f"{method} {path}: the reply with status {status} is not as in {PATH}: {why}" if why else None
 
 
-def schema_of_body(method, path):
-    operation = operations().get((method, path), {})
-    return operation.get("requestBody", {}).get("content", {}).get("application/json", {}).get("schema")
+def schema_of_body(method: str, path: Optional[str]) -> Optional[Part]:
+    operation = operations().get((method, path or ""), {})
+    found: Optional[Part] = operation.get("requestBody", {}).get("content", {}).get("application/json", {}).get("schema")
+    return found
 
 
 # ---- the document by itself
 
 
-def own_faults():
-    faults, components = [], document()["components"]
+def own_faults() -> list[str]:
+    faults: list[str] = []
+    components = document()["components"]
     for name, schema in components["schemas"].items():
         faults += [f"{PATH}: the schema {name} says {it}, which is not read" for it in sorted(unknown_words(schema))]
         faults += [f"{PATH}: an example of {name}: {why}" for it in schema.get("examples", []) for why in [why_not(schema, it)] if why]
@@ -140,14 +151,14 @@ def own_faults():
     return faults
 
 
-def parts_of(where, operation):
+def parts_of(where: str, operation: Part) -> list[tuple[str, Part]]:
     """The bodies of an operation: that of the request is marked by a question mark."""
     found = [(f"{where}?", operation["requestBody"])] if "requestBody" in operation else []
     found += [(f"{where} {status}", resolved(told)) for status, told in operation["responses"].items()]
     return [(where, it["content"]["application/json"]) for where, it in found if "content" in it]
 
 
-def as_a_whole():
+def as_a_whole() -> list[str]:
     """What the validator says of it, where there is one."""
     try:
         import openapi_spec_validator
@@ -163,41 +174,46 @@ def as_a_whole():
 # ---- the tables of FORMATS and of the code
 
 
-def section(title):
+def section(title: str) -> str:
     return text_of(FORMATS).partition(title)[2].partition("\n## ")[0]
 
 
-def differ(what, *told):
+def differ(what: str, *told: tuple[str, set[Any]]) -> list[str]:
     """Two sides that say something, each with its name, agree."""
     (one, these), (other, those) = told
     return [f"{what}: {one} and {other} differ in {', '.join(sorted(map(str, these ^ those)))}"] if these != those else []
 
 
-def routes():
+def in_braces(found: re.Match[str]) -> str:
+    return f"{{{found[0].lower()}}}"
+
+
+def routes() -> list[str]:
     own = set(operations())
-    named = re.findall(r"`(GET|POST) (/v1/[\w/]+)`", section("\n## Requests over HTTP\n").partition("\n### ")[0])
-    told = {(method, re.sub(r"[A-Z]+", lambda it: "{" + it[0].lower() + "}", path)) for method, path in named}
+    named: list[tuple[str, str]] = re.findall(r"`(GET|POST) (/v1/[\w/]+)`", section("\n## Requests over HTTP\n").partition("\n### ")[0])
+    told = {(method, re.sub(r"[A-Z]+", in_braces, path)) for method, path in named}
     in_code = set(re.findall(r'Road::\w+ => "([^"]+)"', text_of("crates/http_asks/src/roads.rt")))
     return differ("routes", (PATH, own), (FORMATS, told)) + differ("routes", (PATH, {it for _, it in own}), ("the code", in_code))
 
 
-def refusals():
+def refusals() -> set[Refusal]:
     """The refusals that the document has: number, name, status and key."""
-    found = {}
-    for (method, path), operation in operations().items():
+    found: set[Refusal] = set()
+    for operation in operations().values():
         for status, told in operation["responses"].items():
             schema = resolved(told).get("content", {}).get("application/json", {}).get("schema", {})
             for one in map(resolved, schema.get("oneOf", [schema])):
                 parts = one.get("properties", {})
                 if "refused" in parts:
                     keys = [it for it in parts if it not in ("name", "refused", "reply")]
-                    found[parts["refused"]["const"], parts["name"]["const"], int(status), keys[0] if keys else ""] = (method, path)
-    return set(found)
+                    found.add((parts["refused"]["const"], parts["name"]["const"], int(status), keys[0] if keys else ""))
+    return found
 
 
-def refusals_told():
+def refusals_told() -> set[Refusal]:
     numbers = [(int(number), name) for number, name in re.findall(r"`refused (\d+) (\w+)", text_of(FORMATS).partition("\n## The season bundle\n")[0])]
-    statuses, keys = {}, {}
+    statuses: dict[int, int] = {}
+    keys: dict[int, str] = {}
     for status, numbered in re.findall(r"^\| (4\d\d) \| [^|]*\|[^|\n]*refusals? ([\d, to]+?) *\|$", section("\n## Requests over HTTP\n"), re.M):
         for low, high in re.findall(r"(\d+)(?: to (\d+))?", numbered):
             statuses.update(dict.fromkeys(range(int(low), int(high or low) + 1), int(status)))
@@ -206,14 +222,14 @@ def refusals_told():
     return {(number, name, statuses.get(number), keys.get(number, "")) for number, name in numbers}
 
 
-def refusals_of_code():
+def refusals_of_code() -> set[Refusal]:
     numbers = {name: int(it) for name, it in re.findall(r"Refusal::(\w+)(?: \{[^}]*\})? => (\d+),", text_of("crates/office_moves/src/refusal.rt"))}
     statuses = {name: int(it) for name, it in re.findall(r"^refusal_status \(?(\w+)[^=]*= (\d+)$", text_of("crates/reply_bodies/specs/Status.antt"), re.M)}
     keys = dict(re.findall(r'Refusal::(\w+) \{[^}]*\} => \{?\s*\w+\(alloc, refusal, "(\w+)"', text_of("crates/reply_bodies/src/refusals.rt")))
     return {(number, name, statuses.get(name), keys.get(name, "")) for name, number in numbers.items()}
 
 
-def statuses():
+def statuses() -> list[str]:
     # a web server in front of the office has statuses of its own
     own = {int(status) for it in operations().values() for status, told in it["responses"].items() if "/Front" not in told.get("$ref", "")}
     own |= {int(status) for status, part in ((405, "OtherMethod"), (404, "NoRoute")) if part in document()["components"]["responses"]}
@@ -226,9 +242,9 @@ def statuses():
 # ---- the examples of FORMATS
 
 
-def examples():
+def examples() -> list[Example]:
     """The examples of routes: method, path, token and body of the request, status and body of the reply."""
-    found = []
+    found: list[Example] = []
     for block in re.findall(r"(?:^ {4}.*\n)+", section(EXAMPLES), re.M):
         lines = [it.strip() for it in block.splitlines()]
         if not re.fullmatch(r"(GET|POST) /v1\S*(  X-Office-Token: \w+)?", lines[0]):
@@ -240,9 +256,11 @@ def examples():
     return found
 
 
-def examples_are_so():
+def examples_are_so() -> list[str]:
     """Each example is what the plain office replies, one after another, and as the document says; and each operation has one."""
-    office, faults, seen = Served(text_of(SEASON)), [], set()
+    office = Served(text_of(SEASON))
+    faults: list[str] = []
+    seen: set[tuple[str, Optional[str]]] = set()
     for method, path, token, body, status, told in examples():
         like = next((it for shape, it in paths() if shape.fullmatch(path)), None)
         seen.add((method, like))
@@ -257,13 +275,13 @@ def examples_are_so():
     return faults + [f"{FORMATS}: there is no example of {' '.join(it)}" for it in operations() if it not in seen]
 
 
-def as_bytes(method, path, token, body, status, told):
+def as_bytes(method: str, path: str, token: Optional[str], body: bytes, status: int, told: bytes) -> str:
     """An example as its bytes are, as a document shows them."""
     shown = f"{message(method, path, token, body).decode()}\n\n{reply_bytes(status, told).decode()}".replace("\r", "")
     return "".join(f"    {line}\n" if line else "\n" for line in shown.split("\n"))
 
 
-def versions():
+def versions() -> list[str]:
     """The document and the newest section of CHANGELOG.md have the version of the repository."""
     version = text_of("VERSION").strip()
     newest = re.search(r"^## (\S+), ", text_of("CHANGELOG.md"), re.M)
@@ -271,7 +289,7 @@ def versions():
     return document_faults + differ("version", ("VERSION", {version}), ("CHANGELOG.md", {newest[1] if newest else ""}))
 
 
-def faults():
+def faults() -> list[str]:
     try:
         told = differ("refusals", (PATH, refusals()), (FORMATS, refusals_told())) + differ("refusals", (PATH, refusals()), ("the code", refusals_of_code()))
         return [*as_a_whole(), *own_faults(), *versions(), *routes(), *told, *statuses(), *examples_are_so()]

@@ -18,11 +18,12 @@ import subprocess
 import tempfile
 import threading
 import time
+from typing import Any, Callable, Concatenate, Iterable, Iterator, Optional, ParamSpec, Union
 
 import openapi
-from cases import READS_STORES, ROOMS, SECONDS
+from cases import Case, READS_STORES, ROOMS, SECONDS
 from plain_http import asked, message, replied, reply_bytes
-from plain_office import Office, Season
+from plain_office import Office, Person, Season
 
 TOP = os.path.dirname(os.path.dirname(os.path.realpath(__file__)))
 LOOPBACK, LISTENS = "0100007F", "0A"
@@ -32,13 +33,17 @@ NO_PORT = (b"", b"cannot bind port\n", 1)
 # ports in the same order in each run of a checkout, and in another one in other checkouts, which may run at the same time
 PORTS = itertools.cycle(random.Random(TOP).sample(range(15_000, 30_000), 15_000))
 TABLES = ("answer", "lift", "allot", "phase")
+Given = ParamSpec("Given")
+# a status and a body, and the rows of the tables of a store
+Reply = tuple[int, bytes]
+Tables = dict[str, list[tuple[int, ...]]]
 
 
 class Wrong(Exception):
     """What the program does otherwise."""
 
 
-def want(holds, label, what):
+def want(holds: bool, label: str, what: object) -> None:
     if not holds:
         raise Wrong(f"{label}: {what}")
 
@@ -46,19 +51,19 @@ def want(holds, label, what):
 # ---- a server
 
 
-def rows_of_sockets():
+def rows_of_sockets() -> list[list[str]]:
     with open("/proc/net/tcp", encoding="ascii") as table:
         return [it.split() for it in table.readlines()[1:]]
 
 
-def free_port():
+def free_port() -> int:
     """A port that nobody has, below those from which clients get theirs; no two calls give the same one. It is looked up and not tried, since a socket bound for
     that would stay with each program that another thread is just starting."""
     taken = {row[1].split(":")[1] for row in rows_of_sockets()}
     return next(port for port in PORTS if f"{port:04X}" not in taken)
 
 
-def listeners(port):
+def listeners(port: int) -> set[str]:
     """The addresses at which somebody listens on a port."""
     return {row[1].split(":")[0] for row in rows_of_sockets() if row[3] == LISTENS and row[1].endswith(f":{port:04X}")}
 
@@ -66,7 +71,7 @@ def listeners(port):
 class Server:
     """The program serving: so many connections of each of so many workers, from a bundle or from what a store keeps."""
 
-    def __init__(self, program, room, label, conns, workers=1, start="new", store="memory", bundle=b""):
+    def __init__(self, program: str, room: str, label: str, conns: int, workers: int = 1, start: str = "new", store: str = "memory", bundle: bytes = b"") -> None:
         self.label, self.total = label, conns * workers
         # somebody else may have taken a port since it was looked up
         for _ in range(3):
@@ -77,10 +82,11 @@ class Server:
             why = f"it listens at {sorted(found)}" if found else f"it does not listen, and ended with {self.stop()}"
             raise Wrong(f"{label}: {why}")
 
-    def begun(self, words, store, room, bundle):
+    def begun(self, words: list[str], store: str, room: str, bundle: bytes) -> set[str]:
         """Begins the program at a free port, and gives the addresses at which somebody listens there once it does, or has ended."""
         self.port = free_port()
         self.child = subprocess.Popen([*words, str(self.port), store], cwd=room, stdin=subprocess.PIPE, stdout=subprocess.PIPE, stderr=subprocess.PIPE)
+        assert self.child.stdin
         with contextlib.suppress(BrokenPipeError):
             self.child.stdin.write(bundle)
             self.child.stdin.close()
@@ -90,12 +96,12 @@ class Server:
             time.sleep(0.005)
         return listeners(self.port) if self.child.poll() is None else set()
 
-    def connected(self):
+    def connected(self) -> socket.socket:
         link = socket.create_connection(("127.0.0.1", self.port), timeout=SECONDS)
         link.setsockopt(socket.IPPROTO_TCP, socket.TCP_NODELAY, 1)
         return link
 
-    def talk(self, pieces):
+    def talk(self, pieces: Iterable[bytes]) -> bytes:
         """What comes back over one connection on which these pieces are written, until it is ended from the other side, and then no more."""
         with self.connected() as link:
             with contextlib.suppress(BrokenPipeError, ConnectionResetError):
@@ -105,7 +111,7 @@ class Server:
                 link.shutdown(socket.SHUT_WR)
             return rest_of(link)
 
-    def ended(self):
+    def ended(self) -> tuple[str, str, int]:
         """What was written, and the status, once it has ended by itself."""
         try:
             wrote, said = self.child.communicate(timeout=SECONDS)
@@ -114,27 +120,27 @@ class Server:
             raise Wrong(f"{self.label}: it goes on after its last connection") from None
         return wrote.decode(errors="replace"), said.decode(errors="replace"), self.child.returncode
 
-    def used_up(self):
+    def used_up(self) -> None:
         """Takes all connections that are left, each by a client that says nothing."""
         until = time.monotonic() + SECONDS
         while self.child.poll() is None and time.monotonic() < until:
             with contextlib.suppress(OSError):
                 self.talk([])
 
-    def stop(self):
+    def stop(self) -> int:
         self.child.kill()
         self.child.communicate()
         return self.child.returncode
 
-    def __enter__(self):
+    def __enter__(self) -> "Server":
         return self
 
-    def __exit__(self, *_):
+    def __exit__(self, *_: object) -> None:
         if self.child.poll() is None:
             self.stop()
 
 
-def rest_of(link):
+def rest_of(link: socket.socket) -> bytes:
     """All bytes that still come over a connection."""
     found = b""
     with contextlib.suppress(ConnectionResetError):
@@ -143,7 +149,7 @@ def rest_of(link):
     return found
 
 
-def read_reply(link, held=b""):
+def read_reply(link: socket.socket, held: bytes = b"") -> tuple[int, bytes, bool, bytes]:
     """The next reply on a connection as status, body and whether it closes, with what came after it."""
     while b"\r\n\r\n" not in held:
         piece = link.recv(1 << 16)
@@ -161,14 +167,14 @@ def read_reply(link, held=b""):
     return int(lines[0].split()[1]), held[:length], "Connection: close" in lines, held[length:]
 
 
-def trial(tried):
+def trial(tried: Callable[Concatenate[str, Given], None]) -> Callable[Given, Optional[str]]:
     """A trial in a folder of its own, which gives its fault or None."""
 
     @functools.wraps(tried)
-    def gives(*given):
+    def gives(*given: Given.args, **more: Given.kwargs) -> Optional[str]:
         with tempfile.TemporaryDirectory(prefix="served-", dir=ROOMS) as room:
             try:
-                tried(room, *given)
+                tried(room, *given, **more)
             except Wrong as why:
                 return str(why)
             except (OSError, EOFError) as why:
@@ -178,13 +184,13 @@ def trial(tried):
     return gives
 
 
-def same(label, came, wanted):
+def same(label: str, came: bytes, wanted: bytes) -> None:
     if came != wanted:
         at = next((at for at, (one, other) in enumerate(zip(came, wanted)) if one != other), min(len(came), len(wanted)))
         raise Wrong(f"{label}: from byte {at} on {came[at : at + 60]!r} comes, and not {wanted[at : at + 60]!r}")
 
 
-def ends_well(server, office, label):
+def ends_well(server: Server, office: Office, label: str) -> None:
     """The last lines say how far the office is and how much it accepted. Standard error said once where it listened."""
     wrote, said, status = server.ended()
     entries = len(office.answers) + len(office.raises) + office.cuts
@@ -193,7 +199,7 @@ def ends_well(server, office, label):
     want(said.count("\n") == 1 and f"127.0.0.1:{server.port}" in said, label, f"standard error is {said!r:.100}, and not one line that says where it listens")
 
 
-def kept_rows(store):
+def kept_rows(store: str) -> Tables:
     connection = sqlite3.connect(store)
     try:
         return {name: connection.execute(f"SELECT * FROM {name} ORDER BY 1, 2").fetchall() for name in TABLES}
@@ -204,14 +210,14 @@ def kept_rows(store):
 # ---- scripts
 
 
-def batches(items):
+def batches(items: list[bytes]) -> list[list[bytes]]:
     return [items[at : at + MOST_MESSAGES] for at in range(0, len(items), MOST_MESSAGES)]
 
 
 class Script:
     """A season with requests, their messages, and the plain office's replies."""
 
-    def __init__(self, label, text, rows):
+    def __init__(self, label: str, text: str, rows: list[str]) -> None:
         self.label, self.text, self.rows = label, text, rows
         self.season = Season(text)
         self.office = Office(self.season)
@@ -219,17 +225,17 @@ class Script:
         self.messages = [message(*it) for it in self.asks]
         self.replies = [replied(it, self.office.reply(it)) for it in rows]
 
-    def told(self, first=0, last=None):
+    def told(self, first: int = 0, last: Optional[int] = None) -> bytes:
         """The bytes of the replies of one connection."""
         found = self.replies[first:last]
         return b"".join(reply_bytes(*it, closes=at == MOST_MESSAGES) for at, it in enumerate(found, 1))
 
-    def not_described(self):
+    def not_described(self) -> Optional[str]:
         return next((why for (method, path, *_), reply in zip(self.asks, self.replies) for why in [openapi.fault_of(method, path, *reply)] if why), None)
 
 
 @trial
-def scripted(room, program, script, cuts, store):
+def scripted(room: str, program: str, script: Script, cuts: Optional[int], store: str) -> None:
     """A script, each of its messages on a connection after a hundred others, in pieces of so many bytes."""
     want(script.not_described() is None, script.label, script.not_described())
     parts = batches(script.messages)
@@ -243,9 +249,9 @@ def scripted(room, program, script, cuts, store):
         want(kept_rows(f"{room}/{store}") == script.office.rows(), script.label, "the store has other rows than the plain office accepted")
 
 
-def worked_scripts(found):
+def worked_scripts(found: Iterable[Case]) -> list[Script]:
     """The scripts that run well in the cases, once each."""
-    seen = {}
+    seen: dict[tuple[str, str], str] = {}
     for case in found:
         for call in (it for it in case.steps if not isinstance(it, str)):
             text, begin, script = b"".join(call.source).decode(errors="replace").partition("[requests]\n")
@@ -257,15 +263,15 @@ def worked_scripts(found):
 # ---- messages at their limits
 
 
-def get(*fields, target="/v1/state", version="1.1", end="\r\n"):
+def get(*fields: str, target: str = "/v1/state", version: str = "1.1", end: str = "\r\n") -> bytes:
     return end.join([f"GET {target} HTTP/{version}", *fields, "", ""]).encode()
 
 
-def post(route, body, *fields):
+def post(route: str, body: bytes, *fields: str) -> bytes:
     return "\r\n".join([f"POST /v1/{route} HTTP/1.1", *fields, "", ""]).encode() + body
 
 
-def padded(length):
+def padded(length: int) -> bytes:
     """A message whose head has so many bytes."""
     plain = len(get("X: "))
     return get(f"X: {'x' * (length - plain)}")
@@ -287,46 +293,46 @@ NOT_ASKED = reply_bytes(403, b'{"name":"Denied","refused":3,"reply":"refused","r
 BAD, NONE, BAD_CLOSED = reply_bytes(400), reply_bytes(404), reply_bytes(400, closes=True)
 
 
-def length(count):
+def length(count: Union[int, str]) -> str:
     return f"Content-Length: {count}"
 
 
-def as_answer(body):
+def as_answer(body: bytes) -> bytes:
     return post("answer", body, SECOND, length(len(body)))
 
 
-def as_cut(window):
+def as_cut(window: int) -> bytes:
     return post("cut", b'{"window":%d}' % window, CLERK, length(12))
 
 
-def as_round(number, *lines):
+def as_round(number: int, *lines: str) -> bytes:
     return reply_bytes(200, b'{"reply":"round","round":%d,"text":"%s"}' % (number, "".join(f"{it}\\n" for it in lines).encode()))
 
 
-def as_choices(cand, *codes):
+def as_choices(cand: int, *codes: str) -> bytes:
     return reply_bytes(200, b'{"cand":%d,"programmes":[%s],"reply":"choices"}' % (cand, ",".join(f'"{it}"' for it in codes).encode()))
 
 
-def as_entry(cand):
+def as_entry(cand: int) -> bytes:
     return reply_bytes(200, b'{"cand":%d,"category":"GEN","places":["%d",null,null,null],"reply":"register","traits":"-"}' % (cand, cand))
 
 
-def as_answers(cand, *answers):
+def as_answers(cand: int, *answers: tuple[int, int, str]) -> bytes:
     told = ",".join(f'{{"choice":"{choice}","turn":{turn},"window":{window}}}' for window, turn, choice in answers)
     return reply_bytes(200, b'{"answers":[%s],"cand":%d,"reply":"answers"}' % (told.encode(), cand))
 
 
-def as_cutoffs(number, code, *lines):
+def as_cutoffs(number: int, code: str, *lines: str) -> bytes:
     text = "".join(f"{it}\\n" for it in (f"cutoffs {number} {code}", *lines, "end cutoffs"))
     return reply_bytes(200, b'{"programme":"%s","reply":"cutoffs","round":%d,"text":"%s"}' % (code.encode(), number, text.encode()))
 
 
-def not_published(count):
+def not_published(count: int) -> bytes:
     return reply_bytes(404, b'{"name":"NoSuchRound","published":%d,"refused":14,"reply":"refused"}' % count)
 
 
 FIRST = as_round(1, "round 1 seated 4", "allot 1 A OPEN", "allot 2 B OPEN", "allot 3 C OPEN", "allot 4 E OPEN", "end round")
-NO_PAGES = ("nothing", "state/", "seat/0", "seat/01", "seat/+1", "seat/1000000000", "why/1", "list/65536/A", "list/1/A.B")
+NO_PAGES: tuple[str, ...] = ("nothing", "state/", "seat/0", "seat/01", "seat/+1", "seat/1000000000", "why/1", "list/65536/A", "list/1/A.B")
 NO_PAGES += ("round", "round/", "round/01", "round/65536", "round/1/A", "rounds/1", "choices/0", "choices/02", "choices/1000000000", "choices/2/A")
 NO_PAGES += ("cutoffs/1", "cutoffs/01/A", "cutoffs/65536/A", "cutoffs/1/A/", "cutoff/1/A", "register/0", "register/2/A", "answers/0", "answers/1000000000")
 
@@ -412,7 +418,7 @@ EXCHANGES = {
 
 
 @trial
-def exchanges(room, program, bundle, cuts):
+def exchanges(room: str, program: str, bundle: bytes, cuts: Optional[int]) -> None:
     """Each exchange on a server of its own: the bytes at once, or in pieces of so many."""
     for label, (given, told) in EXCHANGES.items():
         label = f"{label}, in pieces of {cuts or 'all'} bytes"
@@ -424,7 +430,7 @@ def exchanges(room, program, bundle, cuts):
 
 
 @trial
-def torn(room, program, bundle):
+def torn(room: str, program: str, bundle: bytes) -> None:
     """Each beginning of a message gets no reply, and the next connection is served."""
     given = as_answer(LEAVE)
     with Server(program, room, "torn messages", len(given) + 1, bundle=bundle) as server:
@@ -441,12 +447,14 @@ def torn(room, program, bundle):
 class Client(threading.Thread):
     """A client with one request after another, some to a connection. What it asks next may depend on how far it knows the office to be."""
 
-    def __init__(self, server, season, draw, next_row):
+    def __init__(self, server: Server, season: Season, draw: random.Random, next_row: Callable[["Client"], Optional[str]]) -> None:
         super().__init__(daemon=True)
         self.server, self.season, self.draw, self.next_row = server, season, draw, next_row
-        self.came, self.fault, self.now = [], None, 0
+        self.came: list[tuple[str, Reply]] = []
+        self.fault: Optional[str] = None
+        self.now = 0
 
-    def run(self):
+    def run(self) -> None:
         try:
             row = self.next_row(self)
             while row:
@@ -455,9 +463,10 @@ class Client(threading.Thread):
         except (OSError, EOFError) as why:
             self.fault = f"{type(why).__name__} {why}"
 
-    def over(self, link, row, count):
+    def over(self, link: socket.socket, row: str, count: int) -> Optional[str]:
         """So many requests over one connection, from this one on; the next one after them."""
-        held, sent = b"", None
+        held = b""
+        sent: Optional[float] = None
         for _ in range(count):
             before, sent = sent, time.monotonic()
             try:
@@ -469,28 +478,32 @@ class Client(threading.Thread):
                     raise
                 return row
             self.came.append((row, (status, body)))
-            row = self.next_row(self)
-            if not row or closes:
-                break
+            following = self.next_row(self)
+            if not following or closes:
+                return following
+            row = following
         return row
 
 
 class Crowd:
     """The clients of a season: its candidates, its clerk, and others who only look."""
 
-    def __init__(self, server, season, seed, count):
-        self.season, self.over, self.clients = season, threading.Event(), []
+    def __init__(self, server: Server, season: Season, seed: int, count: int) -> None:
+        self.season, self.over = season, threading.Event()
+        self.clients: list[Client] = []
         self.choices = season.choices
         for number in range(count - 1):
             draw = random.Random(seed * 100 + number)
             people = season.people
-            row = functools.partial(self.of_candidate, people[number]) if number < len(people) else self.of_anybody
+            row: Callable[[Client], Optional[str]] = self.of_anybody
+            if number < len(people):
+                row = functools.partial(self.of_candidate, people[number])
             self.clients.append(Client(server, season, draw, row))
         self.clerk = Client(server, season, random.Random(seed * 100 + 99), self.of_clerk)
         self.clerk_rows = iter(self.rows_of_clerk())
-        self.left = collections.Counter()
+        self.left: collections.Counter[Client] = collections.Counter()
 
-    def goes_on(self, client):
+    def goes_on(self, client: Client) -> bool:
         """Until the clerk is done, and some requests more; the state was asked if the client does not know how far the office is."""
         if self.over.is_set():
             self.left[client] += 1
@@ -500,7 +513,7 @@ class Crowd:
             client.now = told.get("now", client.now)
         return self.left[client] < 5 and len(client.came) < 2000
 
-    def of_candidate(self, person, client):
+    def of_candidate(self, person: Person, client: Client) -> Optional[str]:
         if not self.goes_on(client):
             return None
         cand, draw = person.id, client.draw
@@ -510,14 +523,14 @@ class Crowd:
         code = draw.choice(sorted(self.season.programmes))
         return draw.choice([answer, answer, f"seat,{cand},{cand}", f"choices,{cand},{cand}", f"why,{cand},{cand},{code}", "state,nobody"])
 
-    def of_anybody(self, client):
+    def of_anybody(self, client: Client) -> Optional[str]:
         if not self.goes_on(client):
             return None
         code = client.draw.choice(sorted(self.season.programmes))
         number = client.draw.randint(0, self.season.rounds + 2)
         return client.draw.choice(["state,nobody", f"round,nobody,{number}", f"list,nobody,{number},{code}"])
 
-    def rows_of_clerk(self):
+    def rows_of_clerk(self) -> Iterator[str]:
         """All cuts, with raises and repeated cuts between them, each window open until the others asked some more."""
         draw = self.clerk.draw
         for window in range(self.season.rounds + 1):
@@ -529,15 +542,15 @@ class Crowd:
             yield f"cut,clerk,{max(window - draw.randint(0, 1), 0)}"
         self.over.set()
 
-    def wait_for(self, more):
+    def wait_for(self, more: int) -> None:
         before, until = sum(len(it.came) for it in self.clients), time.monotonic() + 5
         while sum(len(it.came) for it in self.clients) < before + more and time.monotonic() < until:
             time.sleep(0.001)
 
-    def of_clerk(self, _):
+    def of_clerk(self, _: Client) -> Optional[str]:
         return next(self.clerk_rows, None)
 
-    def served(self):
+    def served(self) -> list[Client]:
         everybody = [*self.clients, self.clerk]
         for it in everybody:
             it.start()
@@ -551,8 +564,9 @@ class Crowd:
 class History:
     """The one history that the rows of a store are, as the plain office accepts it, and the office after each of its cuts."""
 
-    def __init__(self, season, rows):
-        self.season, self.offices = season, []
+    def __init__(self, season: Season, rows: Tables) -> None:
+        self.season = season
+        self.offices: list[Office] = []
         codes, steps, choices = list(season.programmes), ("OPEN", "EWS", "OBC", "SC", "ST", "D"), ("freeze", "float", "slide", "withdraw")
         office = Office(season)
         for window in range(rows["phase"][0][1] + 1):
@@ -567,7 +581,7 @@ class History:
         self.last = office
         want(office.rows() == rows, "clients side by side", "the kept rows are not those of the history")
 
-    def replies(self, row, cuts, own):
+    def replies(self, row: str, cuts: int, own: list[str]) -> tuple[str, int]:
         """The reply to a row at so many cuts, of one who knows of these accepted rows of the open window, and how many cuts there are after it."""
         word, by, *fields = row.split(",")
         if word == "cut" and by == "clerk" and int(fields[0]) == cuts and cuts + 1 < len(self.offices):
@@ -577,9 +591,10 @@ class History:
             office.reply(it)
         return office.reply(row), cuts
 
-    def holds(self, came):
+    def holds(self, came: list[tuple[str, Reply]]) -> None:
         """The replies of one client in their order, each at a place of the history not before that of the last one."""
-        cuts, own = 0, []
+        cuts = 0
+        own: list[str] = []
         for row, reply in came:
             for at in range(cuts, len(self.offices)):
                 text, after = self.replies(row, at, own if at == cuts else [])
@@ -591,18 +606,18 @@ class History:
                 raise Wrong(f"clients side by side: at no place of the history, from cut {cuts} on, {row} is replied by {reply}")
 
 
-def count_of(office):
+def count_of(office: Office) -> int:
     return len(office.answers) + len(office.raises) + office.cuts
 
 
-def forked(office):
+def forked(office: Office) -> Office:
     made = Office(office.season)
     made.answers, made.raises, made.cuts, made.rounds = [*office.answers], [*office.raises], office.cuts, [*office.rounds]
     return made
 
 
 @trial
-def side_by_side(room, program, text, seed, workers, count):
+def side_by_side(room: str, program: str, text: str, seed: int, workers: int, count: int) -> None:
     """So many workers and clients at once: afterwards the file's rows are one history, which has what each client was told, each once and in its order."""
     if not READS_STORES:
         return
@@ -627,7 +642,7 @@ def side_by_side(room, program, text, seed, workers, count):
 
 
 @trial
-def killed(room, program, script, at, delay):
+def killed(room: str, program: str, script: Script, at: int, delay: float) -> None:
     """It is killed while request `at` is under way, and taken up again with what its store keeps: nothing that was answered is lost, and the season goes on. What was
     accepted or only read is asked again: it changes nothing, and what was accepted gives its receipt."""
     label = f"{script.label}, killed at request {at}"
@@ -659,7 +674,7 @@ def killed(room, program, script, at, delay):
 
 
 @trial
-def gone(room, program, bundle):
+def gone(room: str, program: str, bundle: bytes) -> None:
     """Clients that go away, in the middle of a request, of many, or before a reply, and one that takes no reply: the next ones are served."""
     label = "clients that go away"
     with Server(program, room, label, 5, bundle=bundle) as server:
@@ -674,7 +689,7 @@ def gone(room, program, bundle):
 
 
 @trial
-def silent(room, program, bundle):
+def silent(room: str, program: str, bundle: bytes) -> None:
     """A client that says no more in the middle of a message fails its own connection, and the one after it is served."""
     label = "a silent client"
     with Server(program, room, label, 2, bundle=bundle) as server:
@@ -690,7 +705,7 @@ def silent(room, program, bundle):
 
 
 @trial
-def kept_silent(room, program, bundle):
+def kept_silent(room: str, program: str, bundle: bytes) -> None:
     """A connection that was answered and says no more is given up after some 2 seconds, and its worker serves the next one."""
     label = "a silent kept connection"
     with Server(program, room, label, 2, bundle=bundle) as server:
@@ -706,7 +721,7 @@ def kept_silent(room, program, bundle):
 
 
 @trial
-def slow(room, program, bundle):
+def slow(room: str, program: str, bundle: bytes) -> None:
     """A message takes a minute at most, however its bytes come: a client that sends one every 5 seconds loses its connection."""
     label = "a slow message"
     with Server(program, room, label, 2, bundle=bundle) as server:
@@ -724,7 +739,7 @@ def slow(room, program, bundle):
 
 
 @trial
-def refused_early(room, program, bundle):
+def refused_early(room: str, program: str, bundle: bytes) -> None:
     """A message that is refused by its head, while its body still comes, has its reply whole."""
     label = "a body that is refused while it comes"
     body = b"x" * (1 << 20)
@@ -735,7 +750,7 @@ def refused_early(room, program, bundle):
 
 
 @trial
-def short_of_descriptors(room, program, bundle):
+def short_of_descriptors(room: str, program: str, bundle: bytes) -> None:
     """Where the system has no descriptor for a connection, it is taken later, and one line on standard error says so."""
     label = "no descriptor is left"
     with Server(program, room, label, 2, bundle=bundle) as server:
@@ -757,13 +772,13 @@ def short_of_descriptors(room, program, bundle):
 # ---- how it ends
 
 
-def ended(program, room, words, **how):
+def ended(program: str, room: str, words: list[str], **how: Any) -> tuple[bytes, bytes, int]:
     ran = subprocess.run([program, *words], cwd=room, capture_output=True, timeout=SECONDS, **how)
     return ran.stdout, ran.stderr, ran.returncode
 
 
 @trial
-def port_taken(room, program, bundle):
+def port_taken(room: str, program: str, bundle: bytes) -> None:
     """A port that somebody has: nothing is read, nothing is written, and the store has no season."""
     with socket.socket() as it:
         it.bind(("127.0.0.1", 0))
@@ -777,7 +792,7 @@ def port_taken(room, program, bundle):
 
 
 @trial
-def no_season(room, program, bundle):
+def no_season(room: str, program: str, bundle: bytes) -> None:
     """What ends a server before its first connection: faults of the bundle and of the store, an input that is closed, a store that cannot be opened."""
     requests = bundle + b"[requests]\nstate,nobody\n"
     ended(program, room, ["run", "held.db"], input=requests)
@@ -798,6 +813,7 @@ def no_season(room, program, bundle):
     want((closed[0], closed[2]) == (b"fault: read\n", 4), "serve with its input closed", f"{closed} comes")
     with open("/dev/full", "wb") as full:
         child = subprocess.Popen([program, "serve", "1", "1", "new", str(port := free_port()), "memory"], cwd=room, stdin=subprocess.PIPE, stdout=full, stderr=subprocess.DEVNULL)
+        assert child.stdin
         child.stdin.write(bundle)
         child.stdin.close()
         until = time.monotonic() + SECONDS
@@ -808,7 +824,7 @@ def no_season(room, program, bundle):
 
 
 @trial
-def one_connection(room, program, bundle):
+def one_connection(room: str, program: str, bundle: bytes) -> None:
     """After its one connection it takes no other and ends."""
     with Server(program, room, "one connection", 1, bundle=bundle) as server:
         same("one connection", server.talk([get()]), STATE)
@@ -821,7 +837,7 @@ def one_connection(room, program, bundle):
 # ---- the tour of docs/HTTP.md
 
 
-def tour_of(text):
+def tour_of(text: str) -> tuple[list[tuple[str, str]], str]:
     """The calls of `curl` in the part of the page that serves an office, each with the reply below it."""
     part = text.partition("\n## A season with curl\n")[2].partition("\n## ")[0]
     blocks = [it.strip() for it in re.findall(r"(?:^ {4}.*\n)+", part, re.M)]
@@ -829,7 +845,7 @@ def tour_of(text):
 
 
 @trial
-def tour(room, program, bundle):
+def tour(room: str, program: str, bundle: bytes) -> None:
     """Each call of the tour is replied as it says there, and so is the end."""
     with open(f"{TOP}/docs/HTTP.md", encoding="utf-8") as it:
         calls, part = tour_of(it.read())
@@ -842,26 +858,26 @@ def tour(room, program, bundle):
             want(said == told, "the tour of docs/HTTP.md", f"{call} is replied by {said!r:.200}")
         wrote, _, status = server.ended()
         lacking = [it for it in wrote.splitlines() if f"`{it}`" not in part]
-        want(status == 0 and wrote and not lacking, "the tour of docs/HTTP.md", f"it ended with status {status} and wrote {wrote!r}")
+        want(status == 0 and wrote != "" and not lacking, "the tour of docs/HTTP.md", f"it ended with status {status} and wrote {wrote!r}")
 
 
-def has_serve(program):
+def has_serve(program: str) -> bool:
     """Whether the program knows the command: where it does not, its words are none."""
     with tempfile.TemporaryDirectory(prefix="served-") as room:
         return ended(program, room, ["serve", "1", "1", "kept", str(free_port()), "memory"], input=b"")[2] != 2
 
 
-def trials(program, bundle, worked, drawn, is_long):
+def trials(program: str, bundle: bytes, worked: Iterable[Case], drawn: Iterable[tuple[str, str, list[str], list[str], Tables]], is_long: bool) -> Iterator[Callable[[], Optional[str]]]:
     """What is tried, each a call that gives a fault or None: over the season of five candidates, worked scripts of cases, and drawn ones of a season of several rounds."""
-    worked = worked_scripts(worked)
+    of_cases = worked_scripts(worked)
     scripts = [Script(label, text, rows) for label, text, rows, *_ in drawn]
-    for script in worked + scripts:
+    for script in of_cases + scripts:
         yield functools.partial(scripted, program, script, None, "season.db")
-    for script in (worked + scripts)[:: 5 if is_long else 20]:
+    for script in (of_cases + scripts)[:: 5 if is_long else 20]:
         for cuts in (1, 2, 3, 7) if is_long else (3,):
             yield functools.partial(scripted, program, script, cuts, "memory")
-    for cuts in (None, 1, 2, 3, 7) if is_long else (None,):
-        yield functools.partial(exchanges, program, bundle, cuts)
+    for pieces in (None, 1, 2, 3, 7) if is_long else (None,):
+        yield functools.partial(exchanges, program, bundle, pieces)
     long = Script("two hundred and fifty requests", bundle.decode(), ["state,nobody", "seat,1,1"] * 125)
     yield functools.partial(scripted, program, long, None, "memory")
     text = scripts[-1].text

@@ -11,6 +11,7 @@ import re
 import subprocess
 import sys
 import tempfile
+from typing import Callable, Iterator, Optional, Sequence, Union
 
 import cases
 import plain_tables
@@ -19,15 +20,21 @@ from plain_special import drawn_season
 from plain_trials import Draw, in_order
 
 TOP = os.path.dirname(os.path.dirname(os.path.realpath(__file__)))
+# what is tried: a call that gives a fault or None
+Trial = Callable[[], Optional[str]]
 
 
-def called(tool, words, given=b"", **more):
+def called(tool: str, words: Sequence[str], given: bytes = b"", **more: str) -> tuple[str, str, int]:
     """Runs a tool; returns its output, what it said, and its status."""
     ran = subprocess.run([sys.executable, f"{TOP}/{tool}", *words], input=given, capture_output=True, timeout=cases.SECONDS, env={**os.environ, **more})
     return ran.stdout.decode(errors="replace"), ran.stderr.decode(errors="replace"), ran.returncode
 
 
-def put(path, data):
+def came_of(trial: Trial) -> Optional[str]:
+    return trial()
+
+
+def put(path: str, data: Union[bytes, str]) -> str:
     with open(path, "wb") as it:
         it.write(data if isinstance(data, bytes) else data.encode())
     return path
@@ -36,13 +43,13 @@ def put(path, data):
 # ---- tables
 
 
-def shown(field):
+def shown(field: str) -> str:
     """The text that a spreadsheet shows for a field."""
     found = re.fullmatch('="(.*)"', field, re.S)
     return found[1].replace('""', '"') if found else field
 
 
-def table(path):
+def table(path: str) -> list[list[str]]:
     """The rows of a table as a spreadsheet shows them, with the header."""
     with open(path, "rb") as it:
         data = it.read()
@@ -50,14 +57,14 @@ def table(path):
     return [[shown(it) for it in row] for row in csv.reader(data.decode("utf-8-sig").splitlines())]
 
 
-def without_names(rows):
+def without_names(rows: list[list[str]]) -> list[list[str]]:
     """The rows of allotments without the columns of names for codes, which repeat the codes here."""
     header = rows[0]
     kept = [at for at, it in enumerate(header) if it not in ("institute name",)]
     return sorted([row[at] for at in kept] for row in rows[1:])
 
 
-def why_other(room, dossier):
+def why_other(room: str, dossier: bytes) -> Optional[str]:
     """Why the tables of a dossier are not those of the plain program, or None."""
     plain = plain_tables.Plain(dossier.decode())
     if not plain.texts:
@@ -86,17 +93,17 @@ def why_other(room, dossier):
     return None
 
 
-def of_dossier(label, dossier):
+def of_dossier(label: str, dossier: bytes) -> Optional[str]:
     with tempfile.TemporaryDirectory(prefix="tables-", dir=cases.ROOMS) as room:
         why = why_other(room, dossier)
     return why and f"tools/tables, {label}: {why}"
 
 
-def of_drawn(label, text):
+def of_drawn(label: str, text: str) -> Optional[str]:
     return of_dossier(label, Dossier(text).given())
 
 
-def drawn(count):
+def drawn(count: int) -> Iterator[Trial]:
     """Drawn seasons with categories, traits, relaxed places and raises, whose papers the plain office made; some are cut short after a round."""
     draw = Draw(77)
     for number in range(count):
@@ -106,7 +113,7 @@ def drawn(count):
         yield functools.partial(of_drawn, f"drawn season {number}", text)
 
 
-def special():
+def special() -> Optional[str]:
     """Why the tables and letters with a special round are not as they should be, or a wrong text of one is taken, or None."""
     folder = f"{TOP}/examples/vacant-seats"
     with open(f"{folder}/bundle.txt", encoding="ascii") as it:
@@ -143,7 +150,7 @@ CODES = ("007", "1E5", "3-4", "12/5", "10:30", "240310123456", "MAR-1", "1-SEP",
 PLAIN = ("CSE-HS", "12", "4R", "3.5", "-", "", "Zoë", "प्रिया, A", 'a "b"', "1,2")
 
 
-def codes_stay():
+def codes_stay() -> Iterator[str]:
     """Fields are shown as the texts that they were, those that a spreadsheet would change as texts, and the others plainly."""
     sys.path.append(f"{TOP}/tools")
     import spreadsheet_csv
@@ -209,28 +216,28 @@ BOARDS = (
 )
 
 
-def three_windows():
+def three_windows() -> str:
     with open(f"{TOP}/examples/three-windows/bundle.txt", encoding="ascii") as it:
         return Dossier(it.read()).given().decode()
 
 
-def why_taken(tool, words, said_of):
+def why_taken(tool: str, words: Sequence[Union[bytes, str]], said_of: str) -> Optional[str]:
     """Why a tool takes a spoiled file, or does not say what is wrong, or None. Words that are bytes are files with these bytes."""
     with tempfile.TemporaryDirectory(prefix="tables-", dir=cases.ROOMS) as room:
-        words = [put(f"{room}/{at}.txt", it) if isinstance(it, bytes) else it for at, it in enumerate(words)]
-        _, said, status = called(f"tools/{tool}", [*words, f"{room}/out"])
+        named = [put(f"{room}/{at}.txt", it) if isinstance(it, bytes) else it for at, it in enumerate(words)]
+        _, said, status = called(f"tools/{tool}", [*named, f"{room}/out"])
         is_written = os.path.exists(f"{room}/out")
     if status != 3 or "Traceback" in said or not re.search(said_of, said) or not said.startswith(f"{tool}: "):
         return f"tools/{tool} of a spoiled file: status {status} and {said.strip()[-300:]!r}, and not {said_of!r}"
     return f"tools/{tool} wrote of a spoiled file: {said_of}" if is_written else None
 
 
-def spoiled():
+def spoiled() -> Iterator[Trial]:
     """Spoiled dossiers and tables of the board's: each is refused with its place, and nothing is written."""
     dossier = three_windows()
     for form, instead, said_of in DOSSIERS:
         text, count = re.subn(form, instead, dossier, count=1, flags=re.M)
-        yield functools.partial(why_taken, "tables", [text.encode()], said_of) if count else lambda form=form: f"checks/table_trials.py: {form} is nowhere"
+        yield functools.partial(why_taken, "tables", [text.encode()], said_of) if count else functools.partial(str, f"checks/table_trials.py: {form} is nowhere")
     for option, data, said_of in BOARDS:
         yield functools.partial(why_taken, "tables", [dossier.encode(), option, data], said_of)
     for data, said_of in SPECIALS:
@@ -239,7 +246,7 @@ def spoiled():
         yield functools.partial(why_taken, "tables", [dossier.encode(), *words], said_of)
 
 
-def other_words():
+def other_words() -> Optional[str]:
     """Why the status of a call with a missing file, with other words or with --help is another one, or None."""
     with tempfile.TemporaryDirectory(prefix="tables-", dir=cases.ROOMS) as room:
         here = put(f"{room}/dossier.txt", three_windows())
@@ -248,7 +255,7 @@ def other_words():
     return f"tools: the statuses of other calls are {wrong}" if wrong else None
 
 
-def own_columns(data):
+def own_columns(data: bytes) -> Optional[str]:
     """Why the board's columns are not in the tables, or a token is, or None."""
     with tempfile.TemporaryDirectory(prefix="tables-", dir=cases.ROOMS) as room:
         words = [put(f"{room}/dossier.txt", three_windows()), f"{room}/out", "--names", put(f"{room}/tokens.csv", data)]
@@ -271,7 +278,7 @@ FORMS = (OFFICE_FORM.encode(), TOKENS.encode(), TOKENS.replace(",", ";").encode(
 # ---- letters
 
 
-def pages_of(pdf):
+def pages_of(pdf: str) -> Optional[list[str]]:
     """The text of each page of a PDF, or None if pdftotext is missing."""
     try:
         return subprocess.run(["pdftotext", "-layout", pdf, "-"], stdout=subprocess.PIPE, check=True).stdout.decode().split("\f")[:-1]
@@ -279,7 +286,7 @@ def pages_of(pdf):
         return None
 
 
-def why_letters_differ(room):
+def why_letters_differ(room: str) -> Optional[str]:
     """Why the letters do not say what the season and the board's tables say, or a code is not confirmed, or None."""
     with open(f"{room}/let/codes-final.csv", encoding="utf-8-sig", newline="") as it:
         header, *rows = [[shown(field) for field in row] for row in csv.reader(it)]
@@ -311,7 +318,7 @@ SPOILED_LETTERS = (
 )
 
 
-def letters():
+def letters() -> Optional[str]:
     """Why letters with names, places to report and codes are not as they should be, or None."""
     with tempfile.TemporaryDirectory(prefix="letters-", dir=cases.ROOMS) as room:
         words = [put(f"{room}/dossier.txt", three_windows())]
@@ -325,35 +332,35 @@ def letters():
     return why and f"tools/letters: status {status}: {why}"
 
 
-def spoiled_letters():
+def spoiled_letters() -> Iterator[Trial]:
     for option, data, said_of in SPOILED_LETTERS:
         words = [word for it, text in {**LETTER_FILES, option: data}.items() for word in (it, text.encode())]
         yield functools.partial(why_spoiled_letters, words, said_of)
 
 
-def why_spoiled_letters(words, said_of):
+def why_spoiled_letters(words: Sequence[Union[bytes, str]], said_of: str) -> Optional[str]:
     """Why a spoiled file of the letters is taken, or None; without the library nothing is looked at."""
     why = why_taken("letters", [three_windows().encode(), *words], said_of)
     return None if why and "apt-get install python3-gi" in why else why
 
 
-def faults(count):
+def faults(count: int) -> list[str]:
     """All that is looked at without a program, with that many drawn seasons."""
-    tried = [*drawn(count), *spoiled(), *spoiled_letters(), other_words, letters, special, *(functools.partial(own_columns, it) for it in FORMS)]
+    tried: list[Trial] = [*drawn(count), *spoiled(), *spoiled_letters(), other_words, letters, special, *(functools.partial(own_columns, it) for it in FORMS)]
     with concurrent.futures.ThreadPoolExecutor(os.cpu_count()) as lanes:
-        return [*codes_stay(), *(it for it in lanes.map(lambda call: call(), tried) if it)]
+        return [*codes_stay(), *(it for it in lanes.map(came_of, tried) if it)]
 
 
 # ---- over a program
 
 
-def ran(program, words, given, room):
+def ran(program: str, words: list[str], given: bytes, room: str) -> bytes:
     wrote, status = cases.called(program, words, given, room)
     assert status == 0, f"{words}: status {status}, {wrote[-200:]!r}"
     return wrote
 
 
-def dossier_of(program, words):
+def dossier_of(program: str, words: Sequence[str]) -> str:
     """The dossier that tools/dossier makes, whose SHA-256 it says."""
     wrote, said, status = called("tools/dossier", words, OFFICE=program)
     assert status == 0, f"tools/dossier: status {status}, {said[-200:]}"
@@ -361,7 +368,7 @@ def dossier_of(program, words):
     return wrote
 
 
-def of_generated(program, count, seed):
+def of_generated(program: str, count: int, seed: int) -> Optional[str]:
     """Why the tables of a generated season, which has its answers and cuts, are not those of the plain program, or None."""
     with tempfile.TemporaryDirectory(prefix="tables-", dir=cases.ROOMS) as room:
         bundle = ran(program, ["generate", str(count), str(seed), "text"], b"", room)
@@ -372,7 +379,7 @@ def of_generated(program, count, seed):
 TWO_STATES = b"answer,1,1,1,1,freeze\nanswer,2,2,1,1,float\ncut,clerk,1\ncut,clerk,2\n"
 
 
-def of_divided(program):
+def of_divided(program: str) -> Optional[str]:
     """Why the tables of the example with two states are not those of the plain program, or a unit has no quota, or None."""
     with open(f"{TOP}/examples/two-states/divided.txt", "rb") as it:
         bundle = it.read() + TWO_STATES
@@ -389,7 +396,7 @@ def of_divided(program):
     return of_dossier("examples/two-states", dossier.encode())
 
 
-def left_and_special(program):
+def left_and_special(program: str) -> Optional[str]:
     """Why the seat of a candidate who left after the final list is not given by the special round, or a wrong table of those who left is taken, or None."""
     with open(f"{TOP}/examples/vacant-seats/bundle.txt", "rb") as it:
         bundle = it.read()
@@ -411,7 +418,7 @@ def left_and_special(program):
     return None
 
 
-def who_is_silent(program):
+def who_is_silent(program: str) -> Optional[str]:
     """Why `counts --names` does not name those who have not answered, with the board's columns and without a token, or None."""
     with open(f"{TOP}/examples/three-windows/bundle.txt", "rb") as it:
         bundle = it.read().partition(b"answer,4")[0]
@@ -430,7 +437,7 @@ def who_is_silent(program):
     return None
 
 
-def trials(program, long):
+def trials(program: str, long: bool) -> Iterator[Trial]:
     """What is tried over a program, each a call that gives a fault or None."""
     yield functools.partial(of_generated, program, 300 if long else 40, 7)
     yield functools.partial(of_divided, program)

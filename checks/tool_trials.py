@@ -16,6 +16,8 @@ import stat
 import subprocess
 import sys
 import tempfile
+from concurrent.futures import Executor
+from typing import Callable, Iterable, Iterator, Optional, Sequence
 
 import board_trials
 import cases
@@ -23,6 +25,7 @@ from plain_audit import verdict
 from plain_office import STEPS
 from plain_special import drawn_season
 from plain_trials import Draw, in_order
+from table_trials import came_of
 
 TOP = os.path.dirname(os.path.dirname(os.path.realpath(__file__)))
 sys.path.append(f"{TOP}/tools")
@@ -35,16 +38,18 @@ from faults import FINDERS
 EVERY = "every season"
 # tools/explain as a module: it is asked some hundred times
 LOADER = importlib.machinery.SourceFileLoader("explain", f"{TOP}/tools/explain")
-EXPLAIN = importlib.util.module_from_spec(importlib.util.spec_from_loader("explain", LOADER))
+SPEC = importlib.util.spec_from_loader("explain", LOADER)
+assert SPEC
+EXPLAIN = importlib.util.module_from_spec(SPEC)
 LOADER.exec_module(EXPLAIN)
 
 
-def text_of(name):
+def text_of(name: str) -> str:
     with open(f"{TOP}/{name}", encoding="utf-8") as it:
         return it.read()
 
 
-def called(tool, words, given=b"", **more):
+def called(tool: str, words: Sequence[str], given: bytes = b"", **more: str) -> tuple[bytes, str, int]:
     """Runs a tool; returns its output, what it said, and its status."""
     ran = subprocess.run([sys.executable, f"{TOP}/tools/{tool}", *words], input=given, capture_output=True, timeout=cases.SECONDS, env={**os.environ, **more})
     return ran.stdout, ran.stderr.decode(errors="replace"), ran.returncode
@@ -53,7 +58,7 @@ def called(tool, words, given=b"", **more):
 # ---- limits and words
 
 
-def limits():
+def limits() -> Iterator[str]:
     """The limits of the tools are those of docs/FORMATS.md."""
     body, of, known = text_of("docs/FORMATS.md").partition("\n## All limits\n")[2].partition("\n## ")[0], "", {}
     for cells in (list(map(str.strip, line.strip("|").split("|"))) for line in body.splitlines() if line.startswith("| ")):
@@ -66,7 +71,7 @@ def limits():
                 yield f"tools/formats.py: {it.of}, {it.what}: {it.least} to {it.most}, and docs/FORMATS.md has {there}"
 
 
-def kinds():
+def kinds() -> Iterator[str]:
     """Each kind of fault of docs/FORMATS.md is one that tools/explain knows."""
     text = text_of("docs/FORMATS.md")
     for section, title in (("register", "The merit register"), ("matrix", "The seat matrix"), ("choices", "The choice lists")):
@@ -81,7 +86,7 @@ def kinds():
             yield f"tools/explain: it does not know the line `{given}`"
 
 
-def requests():
+def requests() -> Iterator[str]:
     """Each request of docs/FORMATS.md is one that tools/explain knows."""
     rows = re.findall(r"^\| `(\w+),BY((?:,[A-Z]+)*)` \|", text_of("docs/FORMATS.md"), re.M)
     for kind, fields in rows:
@@ -93,20 +98,31 @@ def requests():
 
 # up to that many drawn seasons, a tenth of the spoiled sheets is tried
 FEW = 10
+# what a bundle says: its first line, then season, register, matrix, and the choices by candidate
+Said = tuple[list[list[str]], list[list[str]], list[list[str]], list[list[str]], dict[str, list[str]]]
 # what clerks get wrong most often: words of the name of at least one case each
 MISTAKES = ("semicolons", "quote", "UTF-16", "F for female", "DW", "PwD", "numbers of 12 digits", "repeated places", "unknown codes", "long choices")
+
+# spreadsheets by their names: how each is written, and its lines
+Files = dict[str, tuple[str, list[str]]]
 
 
 class Written:
     """A case of cases/tools/season.txt."""
 
-    def __init__(self, name):
-        self.name, self.words, self.files, self.bundle, self.said, self.unsaid, self.status = name, [], {}, [], [], [], 0
+    def __init__(self, name: str) -> None:
+        self.name, self.status = name, 0
+        self.words: list[str] = []
+        self.files: Files = {}
+        self.bundle: list[str] = []
+        self.said: list[str] = []
+        self.unsaid: list[str] = []
 
 
-def written_cases():
+def written_cases() -> list[Written]:
     """Reads the cases."""
-    found, case, file = [], None, None
+    found: list[Written] = []
+    case, file = Written("before the first"), ""
     for line in text_of("cases/tools/season.txt").partition("\n\n")[2].splitlines():
         mark, _, rest = line.partition(" ")
         if mark == "#":
@@ -126,7 +142,7 @@ def written_cases():
     return found
 
 
-def put_files(room, files):
+def put_files(room: str, files: Files) -> None:
     for name, (how, lines) in files.items():
         if how == "missing":
             continue
@@ -136,7 +152,7 @@ def put_files(room, files):
             it.write("".join(f"{line}\n" for line in lines))
 
 
-def fault_of_case(case, every):
+def fault_of_case(case: Written, every: Written) -> Optional[str]:
     """Why tools/season does otherwise than a case says, or None."""
     with tempfile.TemporaryDirectory(prefix="season-", dir=cases.ROOMS) as room:
         put_files(room, {**every.files, **case.files})
@@ -152,7 +168,7 @@ def fault_of_case(case, every):
         return f"tools/season, {case.name}: {lacks[0]}" if lacks else f"tools/season, {case.name}: it shows a token" if secret else None
 
 
-def saved_again(room):
+def saved_again(room: str) -> set[bytes]:
     """Returns the bundles that tools/season makes after the file of tokens was saved in other ways: with semicolons, as UTF-16, as Windows writes letters."""
     found = set()
     with open(f"{room}/tokens.csv", encoding="utf-8-sig", newline="") as it:
@@ -170,7 +186,7 @@ def saved_again(room):
     return found
 
 
-def tokens():
+def tokens() -> Iterator[str]:
     """Tokens are made by chance, stay the same at a second call, and are for their owner alone, with the columns that were left out."""
     with tempfile.TemporaryDirectory(prefix="season-", dir=cases.ROOMS) as room:
         put_files(room, written_cases()[0].files)
@@ -201,7 +217,7 @@ def tokens():
 # ---- drawn spreadsheets
 
 
-def spreadsheet(draw, header, rows):
+def spreadsheet(draw: Draw, header: Sequence[str], rows: Iterable[Sequence[str]]) -> bytes:
     """Returns rows as a spreadsheet may write them: columns in any order and one of its own, quotes, empty rows, and some other signs between the fields."""
     columns = [*range(len(header))]
     for at in range(len(columns) - 1, 0, -1):
@@ -218,10 +234,11 @@ def spreadsheet(draw, header, rows):
     return out.getvalue().encode(how)
 
 
-def spoken(bundle):
+def spoken(bundle: bytes) -> Said:
     """Returns what a bundle says, table by table, in one spelling."""
     text = bundle.decode().removeprefix("\ufeff")
-    found, name = {}, "first"
+    found: dict[str, list[list[str]]] = {}
+    name = "first"
     for line in text.splitlines():
         if line.startswith("["):
             name = line.rstrip(",").strip("[]")
@@ -236,7 +253,7 @@ def spoken(bundle):
     return found["first"], sorted(found["season"]), register, matrix, {row[0]: row[1:] for row in found["choices"][1:] if len(row) > 1}
 
 
-def put_drawn(draw, room, said):
+def put_drawn(draw: Draw, room: str, said: Said) -> None:
     """Writes a season as three spreadsheets and its settings, the choices long or wide."""
     first, season, register, matrix, lists = said
     files = {
@@ -254,7 +271,7 @@ def put_drawn(draw, room, said):
             it.write(data)
 
 
-def drawn(count):
+def drawn(count: int) -> Iterator[str]:
     """Seasons that are written as spreadsheets in drawn forms come back as they were."""
     draw = Draw(58)
     for number in range(count):
@@ -269,7 +286,7 @@ def drawn(count):
 # ---- faults
 
 
-def faults_of_cases():
+def faults_of_cases() -> Iterator[tuple[str, bytes, str]]:
     """Gives each input of cases/ that has a fault, with the line of the fault."""
     for case in cases.read(f"{TOP}/cases")[0]:
         for call in case.steps:
@@ -277,7 +294,7 @@ def faults_of_cases():
                 yield case.label, b"".join(call.source), b"".join(call.wanted).decode().strip()
 
 
-def fault_of_explaining(label, given, line):
+def fault_of_explaining(label: str, given: bytes, line: str) -> Optional[str]:
     """Why tools/explain does not explain a fault line, or None."""
     found = EXPLAIN.explained(line, given)
     text = "\n".join(found.lines) if found else ""
@@ -288,7 +305,7 @@ def fault_of_explaining(label, given, line):
     return f"tools/explain, {label}: it shows a token" if re.search(r"tok\d{5}|clerk0001", text) else None
 
 
-def explaining():
+def explaining() -> Iterator[str]:
     """Why tools/explain, called, does not explain a line from its input and from its words, or None."""
     given = b"office bundle 1\n[season]\nrounds,11\n"
     wanted = b"fault: season row 1 BadSeason\nline 3, row 1 of [season]: rounds,11\nrounds is `11`: rounds are 1 to 10\n"
@@ -300,12 +317,13 @@ def explaining():
             called("explain", [f"{room}/bundle.txt", "fault:", "season", "row", "1", "BadSeason"]),
             called("explain", [f"{room}/bundle.txt"], b"fault: season row 1 BadSeason\n"),
         ]
-        others = [called("explain", words)[2] for words in ([f"{room}/bundle.txt", "fault: nothing"], [], [f"{room}/none", "fault: read"], ["--help"])]
+        calls: list[list[str]] = [[f"{room}/bundle.txt", "fault: nothing"], [], [f"{room}/none", "fault: read"], ["--help"]]
+        others = [called("explain", words)[2] for words in calls]
     if any(it != (wanted, "", 0) for it in came) or others != [3, 2, 1, 0]:
         yield f"tools/explain: it writes {came[0][0]!r:.200}, and the statuses of other calls are {others}"
 
 
-def without_program():
+def without_program() -> Iterator[str]:
     """Why tools/dossier and tools/sheet do not say that the program of OFFICE is not there, or None."""
     for tool, words in (("dossier", ["examples/audited/dossier.txt"]), ("sheet", ["examples/audited/dossier.txt", "1", "P1", "OPEN"])):
         wrote, said, status = called(tool, [f"{TOP}/{words[0]}", *words[1:]], OFFICE="/nowhere/office")
@@ -313,27 +331,27 @@ def without_program():
             yield f"tools/{tool} without a program: status {status}, {said[-200:]}"
 
 
-def explained(lanes):
+def explained(lanes: Executor) -> list[str]:
     given = [*faults_of_cases()]
     met = {re.sub("[0-9]+", "N", line.removeprefix("fault: ")) for _, _, line in given}
     lost = [it for it in explain_table.FORMS if it not in explain_table.RARE and not any(re.fullmatch(it, kind) for kind in met)]
     return [*(it for it in lanes.map(lambda it: fault_of_explaining(*it), given) if it), *(f"tools/explain: no case has the fault {it}" for it in lost)]
 
 
-def faults(count):
+def faults(count: int) -> list[str]:
     """All that is looked at without a program, with that many drawn seasons."""
     every, *others = written_cases()
     with concurrent.futures.ThreadPoolExecutor(os.cpu_count()) as lanes:
         found = [*limits(), *requests(), *kinds(), *tokens(), *drawn(count), *explaining(), *without_program(), *explained(lanes)]
         found += [f"cases/tools/season.txt: no case is named after {it}" for it in MISTAKES if not any(it in case.name for case in others)]
-        found += [*board_trials.faults(), *(it for it in lanes.map(lambda trial: trial(), board_trials.spoiled()[:: 1 if count > FEW else 10]) if it)]
+        found += [*board_trials.faults(), *(it for it in lanes.map(came_of, board_trials.spoiled()[:: 1 if count > FEW else 10]) if it)]
         return found + [it for it in lanes.map(lambda case: fault_of_case(case, every), [every, *others]) if it]
 
 
 # ---- over a program
 
 
-def made_by_season(program, name, words):
+def made_by_season(program: str, name: str, words: Sequence[str]) -> Optional[str]:
     """Why the program does not take what tools/season makes of a case, or None."""
     every, *others = written_cases()
     case = next(it for it in [every, *others] if it.name == name)
@@ -346,21 +364,24 @@ def made_by_season(program, name, words):
     return None if status == 0 and counts.startswith(b"bundle candidates ") else f"tools/season, {name}: check writes {counts!r:.80} with status {status}"
 
 
-def dossier_of(program, bundle, words=()):
+def dossier_of(program: str, bundle: bytes, words: Sequence[str] = ()) -> tuple[bytes, str, int]:
     with tempfile.TemporaryDirectory(prefix="dossier-", dir=cases.ROOMS) as room:
         with open(f"{room}/bundle.txt", "wb") as it:
             it.write(bundle)
         return called("dossier", [*words, f"{room}/bundle.txt"], OFFICE=program)
 
 
-def published_step(published, number, code, step):
+def published_step(published: str, number: int, code: str, step: str) -> str:
     """Returns the lines of a step in a published list, as the command on a sheet writes them."""
-    body = re.search(rf"^list {number} {code}\n(.*?)^end list$", published, re.M | re.S)[1]
-    first, lines = re.search(rf"^step {step} (.*)\n((?:(?!step ).*\n)*)", body, re.M).groups()
+    body = re.search(rf"^list {number} {code}\n(.*?)^end list$", published, re.M | re.S)
+    assert body, f"there is no list {number} {code}"
+    found = re.search(rf"^step {step} (.*)\n((?:(?!step ).*\n)*)", body[1], re.M)
+    assert found, f"list {number} {code} has no step {step}"
+    first, lines = found.groups()
     return f"step {first}\n{lines}end\n"
 
 
-def fault_of_sheet(program, dossier, number, code, step):
+def fault_of_sheet(program: str, dossier: bytes, number: int, code: str, step: str) -> Optional[str]:
     """Why the sheet of a step is not one on which `step` writes the published list, or None. The tool itself compares; here it is compared once more."""
     with tempfile.TemporaryDirectory(prefix="sheet-", dir=cases.ROOMS) as room:
         with open(f"{room}/dossier.txt", "wb") as it:
@@ -371,7 +392,7 @@ def fault_of_sheet(program, dossier, number, code, step):
     return None if came == (wanted, 0) else f"tools/sheet {number} {code} {step}: status {status}, {said.strip()[-100:]}, and step writes {came[0]!r:.100}"
 
 
-def sheets(program, bundle, most):
+def sheets(program: str, bundle: bytes, most: int) -> Optional[str]:
     """Why a sheet of a published step of a season is not right, or None. It looks at that many steps, one after another through all rounds."""
     dossier, _, _ = dossier_of(program, bundle)
     steps = [(int(number), code, step) for number, code in re.findall(r"^list (\d+) (\S+)$", dossier.decode(), re.M) for step in STEPS]
@@ -379,18 +400,20 @@ def sheets(program, bundle, most):
     return next(filter(None, (fault_of_sheet(program, dossier, *it) for it in steps[::apart])), None) if steps else "tools/dossier: it gives no list"
 
 
-def changed_list(program):
+def changed_list(program: str) -> Optional[str]:
     """Why a dossier in whose list a better candidate gave way gives a sheet, or None."""
     with open(f"{TOP}/examples/audited/overtaken.txt", "rb") as it:
         dossier = it.read()
-    number, code, step = re.search(r"^list (\d+) (\S+)\nstep (\S+) ", dossier.decode(), re.M).groups()
+    found = re.search(r"^list (\d+) (\S+)\nstep (\S+) ", dossier.decode(), re.M)
+    assert found, "the dossier has no list"
+    number, code, step = found.groups()
     with tempfile.TemporaryDirectory(prefix="sheet-", dir=cases.ROOMS) as room:
         with open(f"{room}/dossier.txt", "wb") as it:
             it.write(dossier)
-        found = [called("sheet", [f"{room}/dossier.txt", number, code, it], OFFICE=program) for it in ("OPEN", "D")]
+        came = [called("sheet", [f"{room}/dossier.txt", number, code, each], OFFICE=program) for each in ("OPEN", "D")]
         absent = called("sheet", [f"{room}/dossier.txt", "9", code, step], OFFICE=program)
-    if 10 not in [status for _, _, status in found] or any(wrote for wrote, _, status in found if status):
-        return f"tools/sheet of a changed list: the statuses are {[status for _, _, status in found]}"
+    if 10 not in [status for _, _, status in came] or any(wrote for wrote, _, status in came if status):
+        return f"tools/sheet of a changed list: the statuses are {[status for _, _, status in came]}"
     return None if absent[2] == 3 else f"tools/sheet of a round that is not there: status {absent[2]}"
 
 
@@ -408,7 +431,7 @@ BROKEN_LISTS = (
 )
 
 
-def broken_lists(program):
+def broken_lists(program: str) -> Optional[str]:
     """Why a sheet is written of a list that is broken, or the line and the reason are not said, or None."""
     dossier = text_of("examples/audited/dossier.txt")
     for form, instead, step, why in BROKEN_LISTS:
@@ -424,7 +447,7 @@ def broken_lists(program):
     return None
 
 
-def without_tokens(program, bundle):
+def without_tokens(program: str, bundle: bytes) -> Optional[str]:
     """Why a dossier without its tokens has one of them, or another verdict, or None."""
     dossier, _, _ = dossier_of(program, bundle)
     bare, said, status = dossier_of(program, bundle, ["--without-tokens"])
@@ -435,11 +458,11 @@ def without_tokens(program, bundle):
     changed = [at for at, pair in enumerate(zip(dossier.split(b"\n"), bare.split(b"\n"))) if pair[0] != pair[1]]
     if len(changed) != len(old) or len(dossier.split(b"\n")) != len(bare.split(b"\n")):
         return f"tools/dossier --without-tokens: {len(changed)} lines differ, and there are {len(old)} tokens"
-    said = [cases.called(program, ["audit"], it, "/") for it in (dossier, bare)]
-    return None if said[0] == said[1] and verdict(bare)[0] == said[0][0] else f"tools/dossier --without-tokens: the verdict is {said[1][0]!r} and not {said[0][0]!r}"
+    told = [cases.called(program, ["audit"], it, "/") for it in (dossier, bare)]
+    return None if told[0] == told[1] and verdict(bare)[0] == told[0][0] else f"tools/dossier --without-tokens: the verdict is {told[1][0]!r} and not {told[0][0]!r}"
 
 
-def trials(program, long):
+def trials(program: str, long: bool) -> Iterator[Callable[[], Optional[str]]]:
     """What is tried over a program, each a call that gives a fault or None."""
     for case in written_cases():
         if not case.status and (long or case.name == EVERY):

@@ -14,8 +14,8 @@ from formats import FIRST_LINES, SECTIONS, UNITS_LINE
 TOP = os.path.dirname(os.path.dirname(os.path.realpath(__file__)))
 MARK = "\ufeff"
 NO_PROGRAM = 1
-# a call of the office: from its words and its input to what it writes and its status
-Call = Callable[[list[str], bytes], tuple[bytes, int]]
+# a call of the office: from its words and its input to what it writes and its status, or None where it does not end
+Call = Callable[[list[str], bytes], tuple[bytes, Optional[int]]]
 
 
 class Refused(Exception):
@@ -40,7 +40,7 @@ def told(call: Call, words: list[str], given: bytes) -> bytes:
     """Returns what a call of the office writes if it exits with status 0."""
     wrote, status = call(words, given)
     if status != 0:
-        raise Refused(wrote, status)
+        raise Refused(wrote, NO_PROGRAM if status is None else status)
     return wrote
 
 
