@@ -8,9 +8,10 @@ import socket
 import tempfile
 import threading
 import time
+from typing import Any, Callable, Iterator, Optional, Sequence, TypeVar, Union
 
 from cases import ROOMS
-from front import Front, Office, found, read_reply, request, text_of
+from front import Front, Office, Reply, found, read_reply, request, text_of
 from plain_office import Season
 from served import TOP
 
@@ -20,23 +21,24 @@ CLERK, SECOND, THIRD = "clerk0001", "tok00002", "tok00003"
 class Tally:
     """What held, what did not, and what was not looked at."""
 
-    def __init__(self):
-        self.passed, self.failed, self.skipped = 0, 0, []
+    def __init__(self) -> None:
+        self.passed, self.failed = 0, 0
+        self.skipped: list[str] = []
 
-    def holds(self, it, label, what=""):
+    def holds(self, it: object, label: str, what: object = "") -> None:
         if it:
             self.passed += 1
         else:
             self.failed += 1
             print(f"FAILED {label}{': ' if what else ''}{what}"[:600], flush=True)
 
-    def same(self, came, wanted, label):
+    def same(self, came: object, wanted: object, label: str) -> None:
         self.holds(came == wanted, label, f"{came} and not {wanted}")
 
-    def status(self, reply, wanted, label):
+    def status(self, reply: Reply, wanted: int, label: str) -> None:
         self.holds(reply.status == wanted, label, f"{reply} and not {wanted}")
 
-    def skips(self, what, lacking):
+    def skips(self, what: str, lacking: str) -> None:
         self.skipped.append(what)
         print(f"SKIPPED {what}: it needs {lacking}", flush=True)
 
@@ -44,28 +46,31 @@ class Tally:
 class Bars:
     """What results day asks of the service, and what was seen of each."""
 
-    def __init__(self):
-        self.rows = []
+    def __init__(self) -> None:
+        self.rows: list[tuple[str, str, str]] = []
 
-    def add(self, bar, figure, is_held, what=""):
+    def add(self, bar: str, figure: str, is_held: bool, what: object = "") -> None:
         self.rows.append((bar, figure, "held" if is_held else "NOT HELD"))
         tally.holds(is_held, bar, f"{figure} {what}")
 
-    def table(self):
+    def table(self) -> list[str]:
         wide = [max((len(row[at]) for row in self.rows), default=0) for at in range(2)]
         return [f"{bar:{wide[0]}}  {figure:{wide[1]}}  {held}" for bar, figure, held in self.rows]
 
 
 tally, bars = Tally(), Bars()
-PARTS = []
+Given = TypeVar("Given")
+# a part of the check: it gets a folder and the program
+Part = Callable[[str, str], None]
+PARTS: list[tuple[str, Callable[[str], None]]] = []
 
 
-def part(label, needs=(), rooms=ROOMS):
+def part(label: str, needs: Sequence[str] = (), rooms: Optional[str] = ROOMS) -> Callable[[Part], Callable[[str], None]]:
     """A part of the check in a folder of its own; what it needs has to be installed. A program can be run from `rooms` None, wherever that is."""
 
-    def taken(tried):
+    def taken(tried: Part) -> Callable[[str], None]:
         @functools.wraps(tried)
-        def gives(program):
+        def gives(program: str) -> None:
             lacking = [it for it in needs if not (os.geteuid() == 0 if it == "root" else found(it) or os.path.exists(it))]
             if lacking:
                 tally.skips(label, ", ".join(lacking))
@@ -83,17 +88,17 @@ def part(label, needs=(), rooms=ROOMS):
     return taken
 
 
-def bundle_of(name="five-candidates"):
+def bundle_of(name: str = "five-candidates") -> bytes:
     with open(f"{TOP}/examples/{name}/bundle.txt", "rb") as it:
         return it.read()
 
 
-def body(**members):
+def body(**members: object) -> bytes:
     return json.dumps(members, separators=(",", ":")).encode()
 
 
 @contextlib.contextmanager
-def fronted(room, program, bundle=None, **how):
+def fronted(room: str, program: str, bundle: Optional[bytes] = None, **how: Any) -> Iterator[tuple[Front, Office]]:
     """A new office and nginx in front of it; afterwards no log of either has a token of the bundle."""
     bundle = bundle or bundle_of()
     os.makedirs(f"{room}/office")
@@ -103,7 +108,7 @@ def fronted(room, program, bundle=None, **how):
     no_tokens(nginx.logs() + text_of(f"{room}/office/office.log"), bundle, os.path.basename(room))
 
 
-def no_tokens(text, bundle, label):
+def no_tokens(text: str, bundle: bytes, label: str) -> None:
     tokens = set(tokens_of(bundle))
     lengths = {len(it) for it in tokens}
     # a season has 50,000 tokens and a log 14 MB, so each word of the log is looked up, and not each token
@@ -112,16 +117,16 @@ def no_tokens(text, bundle, label):
     tally.holds(not seen and all(it.isalnum() for it in tokens), f"no token in a log ({label})", f"{sorted(seen)[:3]}")
 
 
-def tokens_of(bundle):
+def tokens_of(bundle: bytes) -> list[str]:
     season = Season(bundle.decode().partition("[requests]")[0])
     return [season.clerk, *(it.token for it in season.people)]
 
 
-def in_threads(calls):
+def in_threads(calls: Sequence[Callable[[], Given]]) -> list[Union[Given, OSError, EOFError, None]]:
     """Runs these at once, and gives what each of them gives."""
-    given = [None] * len(calls)
+    given: list[Union[Given, OSError, EOFError, None]] = [None] * len(calls)
 
-    def run(at):
+    def run(at: int) -> None:
         try:
             given[at] = calls[at]()
         except (OSError, EOFError) as why:
@@ -135,7 +140,7 @@ def in_threads(calls):
     return given
 
 
-def timed(call):
+def timed(call: Callable[[], Given]) -> tuple[Given, float]:
     begun = time.monotonic()
     return call(), time.monotonic() - begun
 
@@ -143,7 +148,7 @@ def timed(call):
 CUT, ANSWER = body(window=0), body(cand=2, window=1, turn=1, choice="float")
 
 
-def directly(office, method, path, token, given):
+def directly(office: Office, method: str, path: str, token: Optional[str], given: Optional[bytes]) -> Reply:
     with socket.create_connection(("127.0.0.1", office.port), timeout=30) as link:
         link.sendall(request(method, path, token, given))
         return read_reply(link)[0]

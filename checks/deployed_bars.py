@@ -11,19 +11,23 @@ import ssl
 import subprocess
 import time
 import urllib.parse
+from typing import Any, Callable, Iterator, Optional, Sequence, Union
 
 import browser
 import front
 from deployed import CLERK, bars, body, bundle_of, directly, fronted, in_threads, part, tally, timed
 from deployed_front import PROXYD, haproxied, in_network_of, in_new_network, worker_group
-from front import CLERK_AT, HOST, Front, Office, called, found, read_reply, request, until
+from front import CLERK_AT, Front, HOST, Office, Reply, called, found, read_reply, request, until
 
 SCHOOL = "127.0.0.20"
 PAPERS = ("window.json", "names.json", "programmes.json", "notice.txt", "round-1.txt")
 OWN = ("state", "seat/{}", "register/{}", "choices/{}", "answers/{}", "list/1/P00", "cutoffs/1/P00")
 
+# the statuses of a visit by its paths
+Told = dict[str, int]
 
-def season_of(program):
+
+def season_of(program: str) -> tuple[int, bytes]:
     """A generated season whose first round has many seats: as many candidates as the program makes in a moment."""
     _, secs = timed(lambda: called([program, "generate", "2000", "7", "text"]))
     many = 50_000 if secs < 0.5 else 400
@@ -31,7 +35,7 @@ def season_of(program):
 
 
 @contextlib.contextmanager
-def after_a_cut(room, program, **how):
+def after_a_cut(room: str, program: str, **how: Any) -> Iterator[tuple[Front, Office, int]]:
     many, season = season_of(program)
     with fronted(room, program, season, workers=64, **how) as (nginx, office):
         came, secs = timed(lambda: nginx.ask("POST", "/v1/cut", CLERK, body(window=0), source=CLERK_AT))
@@ -39,34 +43,37 @@ def after_a_cut(room, program, **how):
         yield nginx, office, many
 
 
-def token_of(cand):
+def token_of(cand: int) -> str:
     return f"g{cand:08}"
 
 
 # ---- visitors
 
 
-def files_in(body, page):
+def files_in(body: bytes, page: str) -> list[str]:
     """What a browser asks for because of a page or a script."""
     text = gzip.decompress(body) if body.startswith(b"\x1f\x8b") else body
     named = re.findall(rb'(?:src|href)="([^"]+\.(?:js|css|svg))"|^(?:import|export)\b[^"\n]*"([^"]+\.js)"', text, re.M)
     return [urllib.parse.urljoin(page, (one or other).decode()) for one, other in named]
 
 
-def visit(nginx, cand, source):
+def visit(nginx: Front, cand: int, source: str) -> tuple[Told, Optional[float]]:
     """The statuses of a visit, each with its path, and the seconds until the seat is there."""
-    begun, told, seat = time.monotonic(), {}, None
+    begun = time.monotonic()
+    told: Told = {}
+    seat: Optional[float] = None
     with nginx.connected(source) as link:
         held = b""
 
-        def ask(path, token=None):
+        def ask(path: str, token: Optional[str] = None) -> Reply:
             nonlocal held
             link.sendall(request("GET", path, token, fields=["Accept-Encoding: gzip"], host=f"{HOST}:{nginx.port}"))
             came, held = read_reply(link, held)
             told[path] = came.status
             return came
 
-        page, left = "/candidate/", []
+        page: Optional[str] = "/candidate/"
+        left: list[str] = []
         while page:
             left += [it for it in files_in(ask(page).body, page) if it not in told and it not in left]
             page = left.pop(0) if left else None
@@ -78,27 +85,27 @@ def visit(nginx, cand, source):
     return told, seat
 
 
-def visits(nginx, many, seconds):
+def visits(nginx: Front, many: int, seconds: float) -> tuple[int, list[object], float]:
     """So many visitors of one address within these seconds: how many got everything, what went wrong, and the longest wait for a seat."""
 
-    def visitor(number):
+    def visitor(number: int) -> tuple[Told, Optional[float]]:
         time.sleep(seconds * number / many)
         return visit(nginx, number + 1, SCHOOL)
 
     came = in_threads([functools.partial(visitor, it) for it in range(many)])
     fine = [(refused_of(it[0]), it[1]) for it in came if isinstance(it, tuple)]
     whole = sum(not refused and seat is not None for refused, seat in fine)
-    odd = [*(it for refused, _ in fine for it in refused), *(it for it in came if not isinstance(it, tuple))]
+    odd: list[object] = [*(it for refused, _ in fine for it in refused), *(it for it in came if not isinstance(it, tuple))]
     return whole, odd[:3], max((seat for _, seat in fine if seat is not None), default=99)
 
 
-def refused_of(told):
+def refused_of(told: Told) -> list[tuple[str, int]]:
     """What a visitor did not get. A program from before there were these questions knows no such page, and papers are optional."""
     return [(path, status) for path, status in told.items() if status != 200 and not (status == 404 and re.search("/season/|/register/|/answers/|/cutoffs/", path))]
 
 
 @part("bar: visitors of one address", ["nginx", "openssl"])
-def visitors(room, program):
+def visitors(room: str, program: str) -> None:
     with after_a_cut(room, program) as (nginx, _, _):
         for many, seconds in ((40, 1), (300, 60)):
             whole, odd, longest = visits(nginx, many, seconds)
@@ -110,7 +117,7 @@ def visitors(room, program):
 
 
 @contextlib.contextmanager
-def crowd(url, addresses, at_once, most=10_000_000, words=()):
+def crowd(url: str, addresses: Sequence[str], at_once: int, most: int = 10_000_000, words: Sequence[str] = ()) -> Iterator[list[subprocess.Popen[bytes]]]:
     """From each address a curl that asks for a page as fast as it can, until the end of the block or so many times."""
     given = [found("curl"), "-s", "-o", "/dev/null", "--no-progress-meter", "-Z", "--parallel-max", str(at_once), *words]
     children = [subprocess.Popen([*given, "--interface", it, f"{url}?[1-{most}]"], stdout=subprocess.DEVNULL, stderr=subprocess.DEVNULL) for it in addresses]
@@ -123,30 +130,30 @@ def crowd(url, addresses, at_once, most=10_000_000, words=()):
             it.wait()
 
 
-def over_tls(nginx, token):
+def over_tls(nginx: Front, token: str) -> list[str]:
     """The words by which curl reaches nginx with a token."""
     return ["--cacert", nginx.cert, "--resolve", f"{HOST}:{nginx.port}:127.0.0.1", "-H", f"X-Office-Token: {token}"]
 
 
-def through(nginx):
+def through(nginx: Front) -> Callable[[int], Reply]:
     """How somebody at an address of their own asks for a seat by way of nginx."""
     return lambda cand: nginx.ask("GET", f"/v1/seat/{cand}", token_of(cand), source=f"127.0.{10 + cand // 200}.{cand % 200 + 1}")
 
 
-def others(ask, many, seconds):
+def others(ask: Callable[[int], Reply], many: int, seconds: float) -> tuple[list[Union[int, str]], float]:
     """So many clients, one after another within these seconds: the statuses that came, and the longest wait."""
 
-    def client(number):
+    def client(number: int) -> tuple[Reply, float]:
         time.sleep(seconds * number / many)
         return timed(lambda: ask(number + 1))
 
     came = in_threads([functools.partial(client, it) for it in range(many)])
-    statuses = [it[0].status if isinstance(it, tuple) else repr(it) for it in came]
+    statuses: list[Union[int, str]] = [it[0].status if isinstance(it, tuple) else repr(it) for it in came]
     return statuses, max((it[1] for it in came if isinstance(it, tuple)), default=99)
 
 
 @part("bar: ten addresses at full speed", ["nginx", "openssl", "curl"])
-def ten_addresses(room, program):
+def ten_addresses(room: str, program: str) -> None:
     with after_a_cut(room, program) as (nginx, _, _):
         with crowd(f"{nginx.origin}/v1/seat/1", [f"127.0.9.{it}" for it in range(1, 11)], 50, words=over_tls(nginx, token_of(1))):
             statuses, longest = others(through(nginx), 100, 4)
@@ -160,7 +167,7 @@ def ten_addresses(room, program):
 
 
 @part("bar: 500 requests for the text of a round", ["nginx", "openssl", "curl"])
-def round_texts(room, program):
+def round_texts(room: str, program: str) -> None:
     with after_a_cut(room, program) as (nginx, _, many):
         with crowd(f"{nginx.origin}/v1/round/1", ["127.0.9.1"], 300, 500, over_tls(nginx, token_of(1))):
             statuses, longest = others(through(nginx), 60, 3)
@@ -170,14 +177,14 @@ def round_texts(room, program):
 
 
 @part("bar: the office itself and its longest text", ["curl"])
-def office_texts(room, program):
+def office_texts(room: str, program: str) -> None:
     """Without nginx: the office copies the bytes of a text."""
     many, season = season_of(program)
     with Office(program, room) as office:
         office.start("new", workers=64, bundle=season)
         directly(office, "POST", "/v1/cut", CLERK, body(window=0))
 
-        def asks(cand):
+        def asks(cand: int) -> Reply:
             return directly(office, "GET", f"/v1/seat/{cand}", token_of(cand), None)
 
         with crowd(f"http://127.0.0.1:{office.port}/v1/round/1", ["127.0.9.1"], 300, 500, ["-H", "Connection: close"]):
@@ -190,12 +197,12 @@ def office_texts(room, program):
 
 
 @contextlib.contextmanager
-def with_the_door(room, program):
+def with_the_door(room: str, program: str) -> Iterator[tuple[str, Office]]:
     """The office in a network of its own, and the door of the units, with the descriptors that they give it."""
     text = front.text_of(f"{front.DEPLOY}/nachodune-door.service")
-    most = re.search(r"--connections-max=\d+", text)[0]
-    files = re.search(r"^LimitNOFILE=(\d+)", text, re.M)
-    files = files[1] if files else "1024"
+    found_most, found_files = re.search(r"--connections-max=\d+", text), re.search(r"^LimitNOFILE=(\d+)", text, re.M)
+    assert found_most, "the door has no --connections-max"
+    most, files = found_most[0], found_files[1] if found_files else "1024"
     os.makedirs(f"{room}/office")
     with Office(program, f"{room}/office", 8080) as office:
         office.start("new", workers=64, bundle=bundle_of(), wait=False, preexec_fn=in_new_network)
@@ -214,7 +221,7 @@ def with_the_door(room, program):
             proxy.wait()
 
 
-def stalls(office, ask, many):
+def stalls(office: Office, ask: Callable[[str], Reply], many: int) -> tuple[list[Union[int, str]], int, float]:
     """Has the office stall for 4 seconds while so many clients ask once: the statuses, how many connections the office's kernel refused meanwhile, and the seconds."""
     before = overflows(office)
     office.child.send_signal(signal.SIGSTOP)
@@ -224,7 +231,7 @@ def stalls(office, ask, many):
     return [getattr(it, "status", repr(it)) for it in came], overflows(office) - before, secs
 
 
-def overflows(office):
+def overflows(office: Office) -> int:
     """How often the kernel refused a connection to the office, because those that wait for a worker were too many."""
     names, numbers = [it.split() for it in front.text_of(f"/proc/{office.child.pid}/net/netstat").splitlines()[:2]]
     return int(numbers[names.index("ListenOverflows")])
@@ -234,7 +241,7 @@ DOORS = ["openssl", "root", "prlimit", "systemd-socket-activate", PROXYD]
 
 
 @part("bar: 500 requests wait while the office stalls", ["nginx", *DOORS])
-def stalled(room, program):
+def stalled(room: str, program: str) -> None:
     with with_the_door(room, program) as (sock, office), Front(room, f"unix:{sock}") as nginx:
         until(lambda: nginx.ask("GET", "/v1/state").status == 200, "the office behind the door", 60)
         statuses, refused, secs = stalls(office, lambda source: nginx.ask("GET", "/v1/state", source=source), 500)
@@ -243,11 +250,11 @@ def stalled(room, program):
 
 
 @part("bar: 500 requests wait in the queue of haproxy", ["haproxy", *DOORS])
-def queued(room, program):
+def queued(room: str, program: str) -> None:
     with with_the_door(room, program) as (sock, office), haproxied(room, f"unix@{sock}") as (cert, port):
         context = ssl.create_default_context(cafile=cert)
 
-        def ask(source):
+        def ask(source: str) -> Reply:
             with socket.create_connection(("127.0.0.1", port), timeout=30, source_address=(source, 0)) as bare, context.wrap_socket(bare, server_hostname=HOST) as link:
                 link.sendall(request("GET", "/v1/state"))
                 return read_reply(link)[0]
@@ -264,7 +271,7 @@ SLOW_3G = {"offline": False, "latency": 400, "downloadThroughput": 50_000, "uplo
 
 
 @part("bar: a slow phone", ["nginx", "openssl"] + ([] if browser.program() else ["chromium"]))
-def slow_phone(room, program):
+def slow_phone(room: str, program: str) -> None:
     with fronted(room, program) as (nginx, _):
         nginx.ask("POST", "/v1/cut", CLERK, body(window=0), source=CLERK_AT)
         many = [f'{{"code":"X{it}","institute":"I{it % 100}","list":1,"steps":{{"OPEN":{{"seats":{it % 50},"protect":{{"W":{it % 9},"D":{it % 3}}}}}}}}}' for it in range(8000)]

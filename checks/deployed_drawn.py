@@ -3,10 +3,11 @@ that the RFCs and the office read differently, with the status of docs/FORMATS.m
 import json
 import re
 import socket
+from typing import Any, Optional, Sequence, TypeVar
 
 import openapi
 from deployed import CLERK, CUT, SECOND, THIRD, bundle_of, directly, part, tally
-from front import Office, read_reply, request
+from front import Office, Reply, read_reply, request
 from plain_trials import Draw
 
 MANY = 12_000
@@ -14,15 +15,19 @@ MANY = 12_000
 ODD = ('"1"', "1.0", "1e0", "-1", "null", "true", "[1]", '{"a":1}', '""', '"' + "x" * 17 + '"', "99999999999999999999", '"\\u0000"', '"कखग"', "01")
 # what is no number, and no code, in a path
 NO_NUMBERS = ("0x1", "-1", "01", "1.0", "99999999999", "%31", "é", "")
-SPOILED = {"prog": ("a" * 17, "A.B", "%41", "é", "")}
+SPOILED: dict[str, tuple[str, ...]] = {"prog": ("a" * 17, "A.B", "%41", "é", "")}
 TOKENS = (CLERK, SECOND, THIRD, "tok00001", "tok00009", "wrongwrong", "", "x" * 40, "tok0000é")
 
+Item = TypeVar("Item")
+# a request: method, path, token and body; whether it names a page, has its method, and its body is right
+Asked = tuple[str, str, str, bytes, bool, bool, bool]
 
-def one_of(draw, items):
+
+def one_of(draw: Draw, items: Sequence[Item]) -> Item:
     return items[draw.below(len(items))]
 
 
-def drawn(draw, schema):
+def drawn(draw: Draw, schema: openapi.Part) -> Any:
     """Returns a value that a schema allows."""
     schema = openapi.resolved(schema)
     if "enum" in schema:
@@ -33,14 +38,14 @@ def drawn(draw, schema):
     return one_of(draw, ("A", "B", "C", "X-1", "a" * 16))
 
 
-def drawn_path(draw, path):
+def drawn_path(draw: Draw, path: str) -> tuple[str, bool]:
     """Returns a path, and whether it names a page."""
     wrong = draw.below(8) == 0
     item = openapi.document()["paths"][path]
     given = {it["name"]: it["schema"] for it in next(iter(item.values())).get("parameters", item.get("parameters", []))}
     spoiled = one_of(draw, sorted(given)) if wrong and given else None
 
-    def put(found):
+    def put(found: re.Match[str]) -> str:
         name = found[1]
         return one_of(draw, SPOILED.get(name, NO_NUMBERS)) if name == spoiled else str(drawn(draw, given[name]))
 
@@ -50,7 +55,7 @@ def drawn_path(draw, path):
     return made + ("?x=1" if draw.below(6) == 0 else ""), not wrong
 
 
-def drawn_body(draw, schema):
+def drawn_body(draw: Draw, schema: openapi.Part) -> tuple[bytes, bool]:
     """Returns the bytes of a body, and whether it is as the schema says."""
     schema = openapi.resolved(schema)
     members = {name: json.dumps(drawn(draw, it)) for name, it in schema["properties"].items()}
@@ -73,7 +78,7 @@ def drawn_body(draw, schema):
     return text.encode(), right
 
 
-def drawn_request(draw):
+def drawn_request(draw: Draw) -> Asked:
     """Returns a request and what it should get: its method, path, token and body, whether it names a page, has its method, and its body is right."""
     method, path = one_of(draw, sorted(openapi.operations()))
     target, is_page = drawn_path(draw, path)
@@ -86,10 +91,11 @@ def drawn_request(draw):
 class Kept:
     """One connection after another, each with up to 99 requests."""
 
-    def __init__(self, office):
-        self.office, self.link = office, None
+    def __init__(self, office: Office) -> None:
+        self.office = office
+        self.link: Optional[socket.socket] = None
 
-    def ask(self, method, target, token, body):
+    def ask(self, method: str, target: str, token: str, body: bytes) -> Reply:
         if not self.link:
             self.link, self.count, self.held = socket.create_connection(("127.0.0.1", self.office.port), timeout=30), 0, b""
         self.link.sendall(head(method, target, token, body) + body)
@@ -101,12 +107,12 @@ class Kept:
         return came
 
 
-def head(method, target, token, body):
+def head(method: str, target: str, token: str, body: bytes) -> bytes:
     lines = [f"{method} {target} HTTP/1.1", "Host: x"] + ([f"X-Office-Token: {token}"] if token else []) + [f"Content-Length: {len(body)}"]
     return "\r\n".join([*lines, "", ""]).encode()
 
 
-def odd_of(asked, came):
+def odd_of(asked: Asked, came: Reply) -> Optional[str]:
     """What is odd about a reply, or None."""
     method, target, _, _, is_page, has_method, right = asked
     if came.status >= 500:
@@ -121,8 +127,10 @@ def odd_of(asked, came):
 
 
 @part("requests drawn from openapi.json")
-def requests_drawn(room, program):
-    draw, odd, seen = Draw(12), [], {}
+def requests_drawn(room: str, program: str) -> None:
+    draw = Draw(12)
+    odd: list[str] = []
+    seen: dict[int, int] = {}
     with Office(program, room) as office:
         office.start("new", bundle=bundle_of(), workers=4)
         directly(office, "POST", "/v1/cut", CLERK, CUT)
@@ -133,7 +141,7 @@ def requests_drawn(room, program):
             seen[came.status] = seen.get(came.status, 0) + 1
             why = odd_of(asked, came)
             if why:
-                odd.append(f"{number}: {asked}: {came.status} {came.body[:80]}: {why}")
+                odd.append(f"{number}: {asked}: {came.status} {came.body[:80]!r}: {why}")
         raw(office)
     tally.holds(not odd, f"{MANY} requests drawn from openapi.json get replies that it has", f"{len(odd)} odd: {odd[:3]}")
     tally.holds({200, 400, 403, 404, 405, 409} <= set(seen), "the draws reach most statuses", f"{seen}")
@@ -174,7 +182,7 @@ RAW = [
 ]
 
 
-def raw(office):
+def raw(office: Office) -> None:
     for wanted, given, label in RAW:
         with socket.create_connection(("127.0.0.1", office.port), timeout=10) as link:
             link.sendall(given)

@@ -1,6 +1,5 @@
 """The parts of checks/deploy for an evening that goes wrong: logs, slow downloads, a certificate, a disk, a clock, and many people behind one address."""
 import functools
-import itertools
 import os
 import random
 import re
@@ -9,25 +8,31 @@ import shutil
 import socket
 import threading
 import time
+from typing import Optional
 
 from deployed import CLERK, CUT, bars, body, bundle_of, directly, in_threads, part, tally
 from deployed_bars import OWN, after_a_cut, files_in, token_of
 from deployed_files import script
-from front import HOST, Front, Office, Recorder, called, expired, read_reply, request, text_of
+from front import Front, HOST, Office, Recorder, Reply, called, expired, read_reply, request, text_of
 from served import TOP
 
 REPLY = b"HTTP/1.1 404 Not Found\r\nContent-Length: 0\r\nConnection: close\r\n\r\n"
 SECONDS = 5
 
+# how long the page asks a busy office again, and its longest pause, in seconds
+Known = tuple[float, float]
+# a visit: the seconds until the seat, what did not come, and how often it had to ask again
+Visit = tuple[Optional[float], list[str], int]
 
-def size_of(folder):
+
+def size_of(folder: str) -> int:
     return sum(os.path.getsize(f"{folder}/{it}") for it in os.listdir(folder))
 
 
 # ---- logs
 
 
-def asks_on(nginx, path, until, source="127.0.0.31"):
+def asks_on(nginx: Front, path: str, until: float, source: str = "127.0.0.31") -> int:
     """Asks for paths that are not there over one connection, as fast as replies come; returns how often."""
     count = 0
     while time.monotonic() < until:
@@ -44,7 +49,7 @@ def asks_on(nginx, path, until, source="127.0.0.31"):
 
 
 @part("bar: logs of one address", ["nginx", "openssl"])
-def logs(room, program):
+def logs(room: str, program: str) -> None:
     with Recorder(REPLY) as office, Front(room, f"127.0.0.1:{office.port}") as nginx:
         for label, path in (("pages that are not there", "/none/{}/" + "x" * 700), ("questions that are not there", "/v1/none/{}/" + "y" * 700), ("a page", "/candidate/?{}" + "z" * 700)):
             time.sleep(1.5)
@@ -66,16 +71,17 @@ def logs(room, program):
 
 
 @part("bar: slow downloads of one address", ["nginx", "openssl", "root"])
-def slow_downloads(room, program):
+def slow_downloads(room: str, program: str) -> None:
     """Clients that ask for a large paper, and read nothing of it: without TLS for the load's sake, so behind a server that adds it."""
     many = 6000
     with Recorder(REPLY) as office, Front(room, f"127.0.0.1:{office.port}") as nginx:
-        with open(f"{room}/season/round-1.txt", "w", encoding="ascii") as it:
-            it.write("x" * 8_000_000)
-        links, threads = [], 12
+        with open(f"{room}/season/round-1.txt", "w", encoding="ascii") as paper:
+            paper.write("x" * 8_000_000)
+        links: list[socket.socket] = []
+        threads = 12
         lock = threading.Lock()
 
-        def client(number):
+        def client(number: int) -> None:
             for _ in range(many // threads):
                 link = None
                 try:
@@ -103,7 +109,7 @@ def slow_downloads(room, program):
         tally.same((other.status, len(other.body)), (200, 8_000_000), "another address gets the paper meanwhile")
 
 
-def held_by(nginx):
+def held_by(nginx: Front) -> int:
     """How often nginx's workers have the paper open."""
     count = 0
     for pid in called(["pgrep", "-P", str(nginx.child.pid)]).split():
@@ -119,7 +125,7 @@ def held_by(nginx):
 
 
 @part("watch asks its own site", ["nginx", "openssl"])
-def watches(room, program):
+def watches(room: str, program: str) -> None:
     state = b'HTTP/1.1 200 OK\r\nContent-Type: application/json\r\nContent-Length: 2\r\nConnection: close\r\n\r\n{}'
     log, store = f"{room}/logs/nachodune.log", f"{room}/season.db"
     with open(store, "wb") as it:
@@ -127,7 +133,7 @@ def watches(room, program):
     with Recorder(state) as office:
         nginx = Front(room, f"127.0.0.1:{office.port}")
 
-        def looks(*more):
+        def looks(*more: str) -> tuple[int, str]:
             return script("watch", ["--host", HOST, "--at", f"127.0.0.1:{nginx.port}", "--ca", f"{room}/cert.pem", *more, log, store], program)
 
         with nginx:
@@ -156,7 +162,7 @@ def watches(room, program):
 
 
 @part("a clock that is set back by a day")
-def clock(room, program):
+def clock(room: str, program: str) -> None:
     """The copies of the wrong day are no newer than those that were made later, and no reason to make none."""
     store, folder = f"{room}/season.db", f"{room}/copies"
     with Office(program, room) as office:
@@ -185,20 +191,23 @@ def clock(room, program):
 # ---- many people behind one address
 
 
-def patience():
+def patience() -> Known:
     """How long the page asks a busy office again, and its longest pause, in seconds."""
     given = text_of(f"{TOP}/web/ask.js")
-    return [int(re.search(rf"^const {name} = ([0-9_]+);", given, re.M)[1]) / 1000 for name in ("PATIENCE", "LONGEST_WAIT")]
+    whole, longest = (int(it) / 1000 for name in ("PATIENCE", "LONGEST_WAIT") for it in re.findall(rf"^const {name} = ([0-9_]+);", given, re.M))
+    return whole, longest
 
 
 class Visitor:
     """Somebody who asks over a kept connection, and again after 429 and 502 as the page does."""
 
-    def __init__(self, nginx, source, known):
+    def __init__(self, nginx: Front, source: str, known: Known) -> None:
         self.nginx, self.source, self.known = nginx, source, known
-        self.link, self.held, self.lacks, self.waits = None, b"", [], 0
+        self.link: Optional[socket.socket] = None
+        self.held, self.waits = b"", 0
+        self.lacks: list[str] = []
 
-    def once(self, path, token):
+    def once(self, path: str, token: Optional[str]) -> Optional[Reply]:
         """The reply, or None if the connection ended before it."""
         try:
             self.link = self.link or self.nginx.connected(self.source)
@@ -209,10 +218,11 @@ class Visitor:
             self.close()
             return None
 
-    def asked(self, path, token=None):
+    def asked(self, path: str, token: Optional[str] = None) -> Optional[Reply]:
         """The reply that ends the asking; notes what did not come."""
         begun, (whole, longest) = time.monotonic(), self.known
-        for tries in itertools.count():
+        tries = 0
+        while True:
             came = self.once(path, token)
             if came and came.status not in (429, 502):
                 return came
@@ -221,16 +231,18 @@ class Visitor:
                 return came
             self.waits += 1
             time.sleep(min(longest, 0.5 * 2**tries) * random.uniform(0.7, 1.3))
+            tries += 1
 
-    def close(self):
+    def close(self) -> None:
         if self.link:
             self.link.close()
         self.link, self.held = None, b""
 
 
-def patient_visit(nginx, cand, source, known):
+def patient_visit(nginx: Front, cand: int, source: str, known: Known) -> Visit:
     """A visit: the seconds until the seat, what did not come, and how often it had to ask again."""
-    begun, seat, visitor = time.monotonic(), None, Visitor(nginx, source, known)
+    begun, visitor = time.monotonic(), Visitor(nginx, source, known)
+    seat: Optional[float] = None
     page = visitor.asked("/candidate/")
     for it in files_in(page.body if page else b"", "/candidate/"):
         visitor.asked(it)
@@ -243,11 +255,11 @@ def patient_visit(nginx, cand, source, known):
 
 
 @part("bar: 2,000 visitors of one address", ["nginx", "openssl"])
-def crowd_of_one(room, program):
+def crowd_of_one(room: str, program: str) -> None:
     many, seconds, known = 2000, 60, patience()
     with after_a_cut(room, program) as (nginx, _, people):
 
-        def visitor(number):
+        def visitor(number: int) -> Visit:
             time.sleep(seconds * number / many)
             return patient_visit(nginx, number % people + 1, "127.0.0.21", known)
 
@@ -261,12 +273,12 @@ def crowd_of_one(room, program):
 
 
 @part("a known large address, and files for finders", ["nginx", "openssl"])
-def known_large(room, program):
+def known_large(room: str, program: str) -> None:
     """An address that LARGE names has ten times the limit; and what CONTACT and headers.conf give."""
     with Recorder(REPLY) as office, Front(room, f"127.0.0.1:{office.port}", LARGE="127.0.0.36,10.0.0.0/8", CONTACT="https://board.example/contact") as nginx:
         for source, is_large in (("127.0.0.36", True), ("127.0.0.37", False)):
             calls = [functools.partial(statuses_of, nginx, source, 150)] * 10
-            seen = [status for it in in_threads(calls) for status in it]
+            seen = [status for it in in_threads(calls) if isinstance(it, list) for status in it]
             tally.holds((429 in seen) != is_large and 404 in seen, f"1,500 questions at once from {'a known large' if is_large else 'another'} address", f"{seen.count(429)} of {len(seen)} are refused")
         told = nginx.ask("GET", "/.well-known/security.txt")
         tally.holds(told.status == 200 and b"Contact: https://board.example/contact\nExpires: 20" in told.body and told.fields["content-type"].startswith("text/plain"), "security.txt", f"{told}")
@@ -282,7 +294,7 @@ def known_large(room, program):
         tally.same(nginx.ask("GET", "/.well-known/security.txt").status, 404, "no security.txt without CONTACT")
 
 
-def statuses_of(nginx, source, many):
+def statuses_of(nginx: Front, source: str, many: int) -> list[int]:
     """The statuses of questions over one connection."""
     found, held = [], b""
     with nginx.connected(source) as link:

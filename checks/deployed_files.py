@@ -16,6 +16,7 @@ import sys
 import threading
 import time
 import types
+from typing import Sequence
 from unittest import mock
 
 from cases import READS_STORES
@@ -29,12 +30,12 @@ from served import TOP, free_port, kept_rows, listeners
 # ---- the scripts
 
 
-def script(name, words, program, given=b"", **how):
+def script(name: str, words: Sequence[str], program: str, given: bytes = b"", **how: str) -> tuple[int, str]:
     ran = subprocess.run([f"{DEPLOY}/{name}", *words], input=given, capture_output=True, timeout=300, env={**SYSTEM, "OFFICE": program, **how})
     return ran.returncode, (ran.stdout + ran.stderr).decode(errors="replace")
 
 
-def strong(bundle, clerk="Qm4xTz81vKpL"):
+def strong(bundle: bytes, clerk: str = "Qm4xTz81vKpL") -> tuple[bytes, list[str]]:
     """A bundle with strong tokens: its n-th candidate's is the n-th here."""
     tokens = ["aB3dE5fG7hJ9", "kL2mN4pQ6rS8", "tU1vW3xY5zA7", "bC8dF6gH4jK2", "mN9pR7sT5vW3", "xZ4yV6uT8sR2"]
     for number, token in enumerate(tokens, 1):
@@ -42,7 +43,7 @@ def strong(bundle, clerk="Qm4xTz81vKpL"):
     return bundle.replace(b"clerk0001", clerk.encode()), tokens
 
 
-def weak_bundles(given, tokens):
+def weak_bundles(given: bytes, tokens: list[str]) -> list[tuple[str, bytes]]:
     """Bundles with a token that `begin` refuses, each with what is weak about it."""
     first = tokens[0].encode()
     return [
@@ -61,7 +62,7 @@ def weak_bundles(given, tokens):
     ]
 
 
-def is_marked(store, label):
+def is_marked(store: str, label: str) -> None:
     """By its first bytes, a store says whose it is: application_id is at byte 68, and user_version at byte 60."""
     with open(store, "rb") as it:
         head = it.read(100)
@@ -69,7 +70,7 @@ def is_marked(store, label):
 
 
 @part("begin refuses")
-def begin_refuses(room, program):
+def begin_refuses(room: str, program: str) -> None:
     given, tokens = strong(bundle_of())
     for label, bundle in weak_bundles(given, tokens):
         status, wrote = script("begin", [f"{room}/weak.db"], program, bundle)
@@ -86,7 +87,7 @@ def begin_refuses(room, program):
 
 
 @part("begin begins")
-def begin(room, program):
+def begin(room: str, program: str) -> None:
     given, _ = strong(bundle_of())
     status, wrote = script("begin", ["a", "b"], program)
     tally.holds(status == 2, "begin with wrong words", f"{status}")
@@ -101,7 +102,7 @@ def begin(room, program):
     status, wrote = script("begin", [store], program, given)
     tally.holds(status == 3 and "already" in wrote, "begin begins once", f"{status} {wrote}")
     told = called([program, "resume", store], b"state,nobody\n")
-    tally.holds(told == b"state window 0 rounds 2 published 0\n", "the season is there", f"{told}")
+    tally.holds(told == b"state window 0 rounds 2 published 0\n", "the season is there", f"{told!r}")
     is_marked(store, "begin")
     with Office(program, room) as office:
         office.start()
@@ -118,12 +119,12 @@ def begin(room, program):
     status, wrote = script("begin", [f"{room}/units.db"], program, divided, DESK=f"{room}/desk")
     tally.holds(status == 0, "begin takes a bundle with units", f"{status} {wrote}")
     path = f"{room}/desk/clerk-token.conf"
-    told = (os.listdir(f"{room}/desk"), text_of(path), os.stat(path).st_mode & 0o777)
-    tally.same(told, (["clerk-token.conf"], '"Qm4xTz81vKpL" 1;\n', 0o600), "begin tells nginx which token is the clerk's")
+    came = (os.listdir(f"{room}/desk"), text_of(path), os.stat(path).st_mode & 0o777)
+    tally.same(came, (["clerk-token.conf"], '"Qm4xTz81vKpL" 1;\n', 0o600), "begin tells nginx which token is the clerk's")
 
 
 @part("keep-copy")
-def keep_copy(room, program):
+def keep_copy(room: str, program: str) -> None:
     """Over the store of an office that was killed after 40 answers."""
     bundle = bundle_of()
     folder, store = f"{room}/copies", f"{room}/season.db"
@@ -151,11 +152,11 @@ def keep_copy(room, program):
         tally.skips("keep-copy over wrong records", "SQLite 3.37 in Python")
 
 
-def bytes_of(store):
+def bytes_of(store: str) -> list[bytes]:
     return [open(f"{store}{end}", "rb").read() for end in ("", "-wal")]
 
 
-def copied(room, program):
+def copied(room: str, program: str) -> None:
     folder, store = f"{room}/copies", f"{room}/season.db"
     tally.holds(os.path.getsize(f"{store}-wal") > 0, "the killed office leaves its log")
     before = bytes_of(store)
@@ -182,24 +183,24 @@ def copied(room, program):
     tally.holds(bytes_of(f"{room}/second/{kept[-1]}/season.db") == before, "a second folder gets the checked copy")
     shutil.copytree(newest, f"{room}/again")
     told = called([program, "resume", f"{room}/again/season.db"], b"answer,1,1,2,1,freeze\nanswer,2,2,1,16,float\n")
-    tally.holds(told == b"noted 1 window 2 turn 1 freeze\nnoted 2 window 1 turn 16 float\n", "the copy has the last answer", f"{told}")
+    tally.holds(told == b"noted 1 window 2 turn 1 freeze\nnoted 2 window 1 turn 16 float\n", "the copy has the last answer", f"{told!r}")
     staying(room, program, newest)
     script_counts(program, folder)
 
 
-def made_copies(folder, newest):
+def made_copies(folder: str, newest: str) -> list[str]:
     """Copies of many days and cuts, as they would be after months."""
     names = [f"2020{month:02}01T{hour:02}0000.0Z" for month in range(1, 13) for hour in range(4)]
     for at, name in enumerate(names):
         os.makedirs(f"{folder}/{name}")
         for it in ("season.db", "of.txt"):
             shutil.copy(f"{newest}/{it}", f"{folder}/{name}/{it}")
-        with open(f"{folder}/{name}/state.txt", "w", encoding="utf-8") as it:
-            it.write(f"state window {at // 8} rounds 6 published {at // 8}\n")
+        with open(f"{folder}/{name}/state.txt", "w", encoding="utf-8") as state:
+            state.write(f"state window {at // 8} rounds 6 published {at // 8}\n")
     return names
 
 
-def staying(room, program, newest):
+def staying(room: str, program: str, newest: str) -> None:
     folder = f"{room}/copies"
     names = made_copies(folder, newest)
     status, wrote = script("keep-copy", ["--check", folder, f"{room}/second"], program)
@@ -216,7 +217,7 @@ def staying(room, program, newest):
             subprocess.run([found("umount"), f"{room}/small"], check=True)
 
 
-def script_counts(program, folder):
+def script_counts(program: str, folder: str) -> None:
     status, wrote = script("counts", [folder], program)
     tally.holds(status == 0 and "window 2: 4 seats are offered" in wrote, "counts of the newest copy", f"{status} {wrote}")
     tally.holds("1 answered in this window: freeze 1, float 0" in wrote and "3 answered in an earlier" in wrote and "0 have no answer" in wrote, "counts of answers", wrote)
@@ -227,7 +228,7 @@ def script_counts(program, folder):
     tally.holds(status == 1, "counts without a copy", f"{status} {wrote}")
 
 
-def disagreeing(room, program):
+def disagreeing(room: str, program: str) -> None:
     """Copies whose records the office refuses."""
     folder = f"{room}/copies"
     kept = sorted(os.listdir(folder))
@@ -254,7 +255,7 @@ def disagreeing(room, program):
 
 
 @part("keep-copy while the office runs")
-def keep_copy_running(room, program):
+def keep_copy_running(room: str, program: str) -> None:
     """Eight clients answer while copies are made: the office takes each copy, and each has every answer whose receipt came before it was begun."""
     if not READS_STORES:
         tally.skips("keep-copy while the office runs", "SQLite 3.37 in Python")
@@ -265,9 +266,10 @@ def keep_copy_running(room, program):
         office.start("new", workers=10, bundle=bundle)
         directly(office, "POST", "/v1/cut", CLERK, CUT)
         emptied_meanwhile(room, program, office, many)
-        noted, heads = [], set()
+        noted: list[tuple[int, int]] = []
+        heads: set[bytes] = set()
 
-        def client(number):
+        def client(number: int) -> None:
             for turn in range(1, 17):
                 for cand in range(number + 1, many + 1, 8):
                     came = directly(office, "POST", "/v1/answer", f"g{cand:08}", body(cand=cand, window=1, turn=turn, choice="float"))
@@ -277,10 +279,10 @@ def keep_copy_running(room, program):
         clients = [threading.Thread(target=client, args=(it,), daemon=True) for it in range(8)]
         for it in clients:
             it.start()
-        befores = []
+        befores: list[set[tuple[int, int]]] = []
         while any(it.is_alive() for it in clients):
-            with open(f"{store}-wal", "rb") as it:
-                heads.add(it.read(32))
+            with open(f"{store}-wal", "rb") as log:
+                heads.add(log.read(32))
             before = set(noted)
             status, wrote = script("keep-copy", ["--running", store, folder], program)
             if status == 0 and wrote.startswith("kept "):
@@ -295,14 +297,15 @@ def keep_copy_running(room, program):
     whole_copies(room, program, befores, set(noted))
 
 
-def emptied_meanwhile(room, program, office, many):
+def emptied_meanwhile(room: str, program: str, office: Office, many: int) -> None:
     """The office empties its log after the store was copied and before the log is: keep-copy begins again, and the copy has every answer."""
     module = types.ModuleType("keep_copy")
     with mock.patch.object(sys, "path", [DEPLOY, *sys.path]):
         exec(compile(text_of(f"{DEPLOY}/keep-copy"), "keep-copy", "exec"), module.__dict__)
-    store, begun, copyfile = f"{room}/season.db", [], shutil.copyfile
+    store, copyfile = f"{room}/season.db", shutil.copyfile
+    begun: list[object] = []
 
-    def copied(one, to):
+    def copied(one: str, to: str) -> None:
         copyfile(one, to)
         if one == store and not begun:
             begun.append(module.head_of(f"{store}-wal"))
@@ -326,14 +329,14 @@ def emptied_meanwhile(room, program, office, many):
     tally.holds(rows[0] == rows[1] > 100, "a copy that was begun again has every answer", f"{rows}")
 
 
-def whole_copies(room, program, befores, all_noted):
+def whole_copies(room: str, program: str, befores: list[set[tuple[int, int]]], all_noted: set[tuple[int, int]]) -> None:
     """The copies that were made while these and more answers had been given."""
     names = sorted(os.listdir(f"{room}/copies"))
     tally.same(len(names), len(befores), "as many copies as were made")
     for name, before in zip(names, befores):
         shutil.copytree(f"{room}/copies/{name}", f"{room}/look")
         told = called([program, "resume", f"{room}/look/season.db"], b"state,nobody\n")
-        tally.holds(told.startswith(b"state window 1 "), "the office takes a copy that was made while it ran", f"{told}")
+        tally.holds(told.startswith(b"state window 1 "), "the office takes a copy that was made while it ran", f"{told!r}")
         base = sqlite3.connect(f"{room}/look/season.db")
         held = set(base.execute("SELECT cand, turn FROM answer"))
         base.close()
@@ -341,7 +344,7 @@ def whole_copies(room, program, befores, all_noted):
         tally.holds(before <= held <= all_noted, "a copy has each answer from before it, and no other", f"{len(before - held)} of {len(before)} are missing, {len(held - all_noted)} too many")
 
 
-def served_season(room, program, name, bundle, rows=""):
+def served_season(room: str, program: str, name: str, bundle: bytes, rows: str = "") -> Office:
     """A served office over a new store after these rows."""
     os.makedirs(f"{room}/{name}")
     called([program, "run", f"{room}/{name}/season.db"], bundle)
@@ -351,7 +354,7 @@ def served_season(room, program, name, bundle, rows=""):
 
 
 @part("papers")
-def papers(room, program):
+def papers(room: str, program: str) -> None:
     """From a running office, without a restart after a cut."""
     with open(f"{TOP}/examples/three-windows/replies.txt", encoding="ascii") as it:
         replies = it.read()
@@ -366,8 +369,8 @@ def papers(room, program):
         at = ["--office", f"127.0.0.1:{office.port}"]
         status, wrote = script("papers", [*at, f"{room}/p3"], program)
         tally.holds(status == 1 and "name the season" in wrote, "papers without a seat matrix", f"{status} {wrote}")
-        with open(f"{room}/three.txt", "wb") as it:
-            it.write(bundle)
+        with open(f"{room}/three.txt", "wb") as season:
+            season.write(bundle)
         status, wrote = script("papers", [*at, "--places", f"{room}/p3"], program)
         tally.holds(status == 2 and "needs --season" in wrote, "places without a register", f"{status} {wrote}")
         status, wrote = script("papers", [*at, "--season", f"{room}/three.txt", "--places", f"{room}/places"], program)
@@ -400,11 +403,11 @@ def placed(plain: PlainOffice, text: str, institute: str) -> str:
     rows = ""
     for code, told in re.findall(r"^list \d+ (\S+)\n((?:.*\n)*?)end list\n", text, re.M):
         its, merit = plain.season.programmes[code]
-        rows += "".join(f"{code},{it},{plain.season.person(int(it)).places[merit - 1]}\n" for it in re.findall(r"^(\d+) [WDXSFL-]$", told, re.M) if its == institute)
+        rows += "".join(f"{code},{it},{plain.season.registered(int(it)).places[merit - 1]}\n" for it in re.findall(r"^(\d+) [WDXSFL-]$", told, re.M) if its == institute)
     return rows
 
 
-def cutoff_files(folder, has_cutoffs):
+def cutoff_files(folder: str, has_cutoffs: bool) -> None:
     if not has_cutoffs:
         tally.skips("the papers of cutoffs", "a program with the route /v1/cutoffs")
         return
@@ -414,7 +417,7 @@ def cutoff_files(folder, has_cutoffs):
     tally.same(lines[:2], ["programme,institute,step,seats,candidates,admitted,anybody,W,D,X,S,F,L", "A,I1,OPEN,1,4,1,1,1,1,1,1,1,1"], "closing-1.csv")
 
 
-def followed(room, program, told):
+def followed(room: str, program: str, told: tuple[str, str]) -> None:
     """The papers come by themselves after a cut, and go when the season goes back."""
     folder = f"{room}/p5"
     with Office(program, f"{room}") as office:
@@ -444,7 +447,7 @@ def followed(room, program, told):
             child.wait()
 
 
-def mocked(room, program):
+def mocked(room: str, program: str) -> None:
     """A mock round before the first one, from no store."""
     bundle = called([program, "generate", "800", "7", "text"])
     with open(f"{room}/made.txt", "wb") as it:
@@ -475,7 +478,7 @@ def specials(room: str, program: str) -> None:
     tally.holds(status == 3 and "special lists" in wrote, "a special round without lists is refused", f"{status} {wrote}")
 
 
-def agree(folder, replies, bundle, lists):
+def agree(folder: str, replies: str, bundle: bytes, lists: dict[int, str]) -> None:
     """The papers are the texts of `run`, word for word, and have no token."""
     label = os.path.basename(folder)
     rounds = re.findall(r"^round \d+ seated \d+\n(?:.*\n)*?end round\n", replies, re.M)
@@ -500,7 +503,7 @@ HEAD = "candidate,token,application_number\n"
 
 
 @part("what the clerk announces")
-def announced(room, program):
+def announced(room: str, program: str) -> None:
     later = (datetime.datetime.now(datetime.timezone.utc) + datetime.timedelta(days=1)).isoformat(timespec="minutes")
     status, wrote = script("announce", [room, "window", "1", later], program)
     told = json.loads(text_of(f"{room}/window.json"))
@@ -543,7 +546,7 @@ def announced(room, program):
     announced_numbers(room, program)
 
 
-def announced_numbers(room, program):
+def announced_numbers(room: str, program: str) -> None:
     """The paper about application numbers: who has number and token finds the candidate, the paper shows neither, and one of before goes.
 
     A spreadsheet program drops the zeros before a number, so they do not count."""
@@ -571,8 +574,8 @@ FAILING = "import sys, time; sys.stderr.write('answered 503: the store failed; l
 
 
 @part("run-office ends an office whose store failed")
-def ends_failed(room, program):
-    def run(code, store=f"{room}/season.db"):
+def ends_failed(room: str, program: str) -> None:
+    def run(code: str, store: str = f"{room}/season.db") -> tuple[int, str, float]:
         begun = time.monotonic()
         ran = subprocess.run([f"{DEPLOY}/run-office", store, "python3", "-c", code], capture_output=True, timeout=60)
         return ran.returncode, ran.stderr.decode(), time.monotonic() - begun
@@ -604,7 +607,7 @@ while True:
 
 
 @part("an office that reads a large store is away", ["nginx", "openssl"])
-def reads_long(room, program):
+def reads_long(room: str, program: str) -> None:
     """It listens before it answers; run-office says so to nginx, so that nobody waits in silence."""
     os.makedirs(f"{room}/run")
     with open(f"{room}/late", "w", encoding="utf-8") as it:
@@ -629,12 +632,12 @@ def reads_long(room, program):
 
 
 @part("what is watched")
-def watched(room, program):
+def watched(room: str, program: str) -> None:
     log, store = f"{room}/nachodune.log", f"{room}/season.db"
     with open(store, "wb") as it:
         it.write(b"x" * 4096)
 
-    def seen(statuses, age=0):
+    def seen(statuses: Sequence[int], age: float = 0) -> tuple[int, str]:
         at = (datetime.datetime.now(datetime.timezone.utc) - datetime.timedelta(seconds=age)).isoformat(timespec="seconds")
         with open(log, "w", encoding="utf-8") as it:
             it.writelines(json.dumps({"time": at, "status": status}) + "\n" for status in statuses)
@@ -659,12 +662,12 @@ def watched(room, program):
     waits = []
     for _ in range(8):
         _, wrote = script("pause", ["before", room], program, PATH=f"{quick_sleep(room)}:{SYSTEM['PATH']}")
-        waits.append(int(re.search(r"slept (\d+)", wrote)[1]))
+        waits.append(int(re.findall(r"slept (\d+)", wrote)[0]))
         script("pause", ["after", room], program, SERVICE_RESULT="exit-code")
     tally.same(waits, [0, 1, 2, 5, 15, 30, 60, 60], "each start after a failure waits longer, up to a minute")
 
 
-def quick_sleep(room):
+def quick_sleep(room: str) -> str:
     """A folder with a `sleep` that only says how long."""
     os.makedirs(f"{room}/bin", exist_ok=True)
     with open(f"{room}/bin/sleep", "w", encoding="utf-8") as it:
@@ -679,7 +682,7 @@ UNITS = (*sorted(it for it in os.listdir(DEPLOY) if it.startswith("nachodune") a
 SCRIPTS = ("alert", "announce", "begin", "counts", "empty-texts", "go-back", "keep-copy", "papers", "pause", "run-office", "upgraded", "watch")
 
 
-def checkout(room, program):
+def checkout(room: str, program: str) -> str:
     """A checkout with what install needs."""
     os.makedirs(f"{room}/top")
     for name in ("deploy", "docs", "examples", "tools", "web"):
@@ -687,7 +690,7 @@ def checkout(room, program):
     return f"{room}/top"
 
 
-def installed(room, program):
+def installed(room: str, program: str) -> str:
     top = checkout(room, program)
     words = [f"TO={room}/to", f"PROGRAM={program}", f"HOST={HOST}", "CERT=/etc/ssl/office.pem", "KEY=/etc/ssl/office.key"]
     called([f"{top}/deploy/install", *words, "CLERKS=10.1.0.0/16,10.2.0.1", "SECOND=/srv/copies"])
@@ -695,7 +698,7 @@ def installed(room, program):
 
 
 @part("install", rooms=None)
-def install(room, program):
+def install(room: str, program: str) -> None:
     to = installed(room, program)
     there = [os.path.relpath(f"{at}/{it}", to) for at, _, names in os.walk(to) for it in names]
     wanted = {
@@ -724,7 +727,7 @@ def install(room, program):
 
 
 @part("install under every umask", rooms=None)
-def umasks(room, program):
+def umasks(room: str, program: str) -> None:
     """Everybody may read what nginx serves and what units run, also from a checkout that only its owner may read."""
     top = checkout(room, program)
     subprocess.run(["chmod", "-R", "go-rwx", top], check=True)
@@ -742,7 +745,7 @@ def umasks(room, program):
 
 
 @part("nginx takes its files", ["nginx", "openssl"])
-def nginx_takes(room, program):
+def nginx_takes(room: str, program: str) -> None:
     nginx = Front(room, "unix:/run/nachodune/door.sock")
     ran = subprocess.run([found("nginx"), "-t", "-e", "stderr", "-c", f"{room}/nginx.conf"], capture_output=True, text=True)
     tally.holds(ran.returncode == 0, "nginx -t", ran.stderr)
@@ -752,7 +755,7 @@ def nginx_takes(room, program):
 
 
 @part("systemd takes the units", ["systemd-analyze"], rooms=None)
-def units(room, program):
+def units(room: str, program: str) -> None:
     to = installed(room, program)
     os.makedirs(f"{room}/units")
     for name in UNITS:
@@ -772,7 +775,7 @@ def units(room, program):
 
 
 @part("shellcheck takes the scripts", ["shellcheck"], rooms=None)
-def shell_scripts(room, program):
+def shell_scripts(room: str, program: str) -> None:
     """Each script of a shell, and those that run in the container."""
     paths = sorted(f"{at}/{it}" for at, _, names in os.walk(DEPLOY) for it in names if text_of(f"{at}/{it}").startswith("#!/bin/sh"))
     tally.holds(len(paths) > 10, "there are scripts of a shell", f"{paths}")
@@ -1029,7 +1032,7 @@ StandardError=append:/trial.log
 HOST_FILES = ("passwd", "group", "login.defs", "nsswitch.conf", "ld.so.cache", "ld.so.conf", "ld.so.conf.d", "nginx", "alternatives", "ssl/openssl.cnf")
 
 
-def made_root(room, program, trial=TRIAL):
+def made_root(room: str, program: str, trial: str = TRIAL) -> str:
     """A folder that systemd can boot from, with the programs of this machine, a checkout at /top, and nothing installed of it yet; it runs a trial."""
     root = f"{room}/root"
     for name in ("etc/ssl", "etc/systemd/system", "etc/systemd/system.conf.d", "second", "usr", "var/lib/nginx", "var/log/nginx", "var/tmp", "run", "tmp", "proc", "sys", "dev", "root", "home"):
@@ -1067,7 +1070,7 @@ def made_root(room, program, trial=TRIAL):
     return root
 
 
-def seen_in(room, root, seconds=900):
+def seen_in(room: str, root: str, seconds: float = 900) -> dict[str, str]:
     """Boots systemd in a folder, and returns what its trial saw, by name."""
     groups = [f"/sys/fs/cgroup{at}/{name}" for at in ("", "/unified", "/systemd") for name in ("payload", "supervisor")]
     groups = [it for it in groups if not os.path.exists(it)]
@@ -1087,7 +1090,7 @@ def seen_in(room, root, seconds=900):
 
 
 @part("the units under a running systemd", ["root", "systemd-nspawn", "setpriv", "nginx", "openssl", "curl", "logrotate"], rooms=None)
-def booted(room, program):
+def booted(room: str, program: str) -> None:
     root = made_root(room, program)
     seen = seen_in(room, root)
     if "installed" not in seen:
@@ -1099,15 +1102,15 @@ def booted(room, program):
 
 
 @part("try", ["nginx", "openssl"], rooms=None)
-def looked_at(room, program):
+def looked_at(room: str, program: str) -> None:
     """The look on one machine, until Ctrl-C."""
     top = checkout(room, program)
     rooms = f"{room}/rooms"
     os.makedirs(rooms)
     port = next(it for it in iter(free_port, None) if not any(listeners(it + more) for more in (1, 2)))
     with open(f"{room}/try.txt", "wb") as log:
-        how = {"stdin": subprocess.DEVNULL, "stdout": log, "stderr": log, "env": {**SYSTEM, "OFFICE": program, "TMPDIR": rooms}}
-        child = subprocess.Popen([f"{top}/deploy/try", str(port)], **how)
+        env = {**SYSTEM, "OFFICE": program, "TMPDIR": rooms}
+        child = subprocess.Popen([f"{top}/deploy/try", str(port)], stdin=subprocess.DEVNULL, stdout=log, stderr=log, env=env)
     try:
         until(lambda: "Ctrl-C." in text_of(f"{room}/try.txt") or child.poll() is not None, "what try writes", 30)
         told = text_of(f"{room}/try.txt")

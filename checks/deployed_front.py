@@ -13,10 +13,11 @@ import struct
 import subprocess
 import threading
 import time
+from typing import Any, Callable, Iterator, Optional, Sequence
 
 import front
 from deployed import ANSWER, CLERK, CUT, SECOND, THIRD, body, bundle_of, directly, fronted, in_threads, no_tokens, part, tally, timed
-from front import CLERK_AT, DEPLOY, HOST, OTHER_AT, Front, Office, Recorder, called, found, read_reply, request, text_of, until
+from front import CLERK_AT, DEPLOY, Front, HOST, OTHER_AT, Office, Recorder, Reply, called, found, read_reply, request, text_of, until
 from served import Wrong, free_port, listeners
 
 SLOW = 2.0
@@ -28,6 +29,8 @@ FIELDS = {
     "cross-origin-resource-policy": "same-origin",
     "strict-transport-security": "max-age=",
 }
+# asks for something from an address, for the time of this number: the reply, and the seconds
+Ask = Callable[[str, int], tuple[Reply, float]]
 AWAY, BUSY = b'{"front":"away"}', b'{"front":"busy"}'
 
 
@@ -69,11 +72,11 @@ ASKED = [
 ]
 
 
-def same_reply(one, other):
+def same_reply(one: Reply, other: Reply) -> bool:
     return one[0::2] == other[0::2] and all(one.fields.get(it) == other.fields.get(it) for it in ("allow", "content-type"))
 
 
-def has_fields(reply, label, cache):
+def has_fields(reply: Reply, label: str, cache: str) -> None:
     lacking = [name for name, value in FIELDS.items() if value not in reply.fields.get(name, "")]
     tally.same(lacking, [], f"fields of a reply, {label}")
     tally.same(reply.fields.get("cache-control"), cache, f"no reply is kept, {label}")
@@ -81,7 +84,7 @@ def has_fields(reply, label, cache):
 
 
 @part("statuses and bodies through nginx", ["nginx", "openssl"])
-def statuses(room, program):
+def statuses(room: str, program: str) -> None:
     with fronted(room, program) as (nginx, office):
         for status, method, path, token, given in ASKED:
             label = f"{method} {path} -> {status}"
@@ -99,7 +102,7 @@ def statuses(room, program):
         limits(nginx, office)
 
 
-def curled(nginx, method, path, token, given):
+def curled(nginx: Front, method: str, path: str, token: Optional[str], given: Optional[bytes]) -> tuple[int, bytes]:
     """The status and the body over HTTP/2, from the clerk's address."""
     words = [found("curl"), "-s", "--http2", "--cacert", nginx.cert, "--resolve", f"{HOST}:{nginx.port}:127.0.0.1", "--interface", CLERK_AT, "-X", method]
     words += ["-H", f"X-Office-Token: {token}"] if token else []
@@ -112,7 +115,7 @@ def curled(nginx, method, path, token, given):
     return int(status), told
 
 
-def limits(nginx, office):
+def limits(nginx: Front, office: Office) -> None:
     """What nginx answers itself, and what it makes whole for the office."""
     before = len(nginx.logged())
     came = nginx.ask("POST", "/v1/answer", SECOND, b" " * 4097)
@@ -135,10 +138,10 @@ FULL = 400_000
 
 
 @part("a full disk through nginx", ["nginx", "openssl"])
-def full_disk(room, program):
+def full_disk(room: str, program: str) -> None:
     """503 comes through, and the same answer is taken when there is room again."""
 
-    def small():
+    def small() -> None:
         resource.setrlimit(resource.RLIMIT_FSIZE, (FULL, FULL))
 
     answers = ((f"tok{cand:05}", body(cand=cand, window=1, turn=turn, choice="float")) for turn in range(1, 17) for cand in range(1, 5))
@@ -168,7 +171,7 @@ MEMORY = b'HTTP/1.1 507 Insufficient Storage\r\nContent-Type: application/json\r
 
 
 @part("what reaches the office", ["nginx", "openssl"])
-def reaches(room, program):
+def reaches(room: str, program: str) -> None:
     with Recorder(STATE) as office, Front(room, f"127.0.0.1:{office.port}") as nginx:
         fields = ["Cookie: a=b", "User-Agent: x", "Accept: */*", "Content-Type: text/plain", "X-Forwarded-For: 10.0.0.1"]
         fields += ["Connection: keep-alive", "Expect: 100-continue"]
@@ -183,8 +186,8 @@ def reaches(room, program):
         tally.same((first, given), ("POST /v1/answer?q=1 HTTP/1.1", ANSWER), "the office gets the request and its body")
         tally.same(sorted(lines), sorted(wanted), "the office gets the token and the length, and no other field")
         nginx.ask("GET", "/v1/state")
-        wanted = b"GET /v1/state HTTP/1.1\r\nConnection: close\r\nHost: 127.0.0.1\r\n\r\n"
-        tally.same(office.seen[-1], wanted, "without a token there is none")
+        bare = b"GET /v1/state HTTP/1.1\r\nConnection: close\r\nHost: 127.0.0.1\r\n\r\n"
+        tally.same(office.seen[-1], bare, "without a token there is none")
 
         # a kept connection of a client is a connection for each request at the office
         before = len(office.seen)
@@ -203,12 +206,12 @@ def reaches(room, program):
     no_tokens(nginx.logs(), bundle_of(), "what reaches the office")
 
 
-def foreign(nginx, office):
+def foreign(nginx: Front, office: Recorder) -> None:
     """Another Host, another origin, another name in TLS: the office is not asked."""
     own = f"{HOST}:{nginx.port}"
     before = len(office.seen)
 
-    def of_host(label, given, status, plain=False):
+    def of_host(label: str, given: bytes, status: int, plain: bool = False) -> None:
         came = nginx.raw(given, plain=plain)
         tally.status(came, status, label)
 
@@ -233,7 +236,7 @@ def foreign(nginx, office):
     foreign_pages(nginx, office, before)
 
 
-def foreign_pages(nginx, office, before):
+def foreign_pages(nginx: Front, office: Recorder, before: int) -> None:
     """What a browser sends for pages of another origin."""
     own = f"{HOST}:{nginx.port}"
     for label, method, fields in [
@@ -252,18 +255,19 @@ def foreign_pages(nginx, office, before):
     tally.status(came, 403, "the clerk's request from elsewhere")
     tally.holds(len(office.seen) == before, "none of these reaches the office", f"{office.seen[before:]}")
 
-    for label, fields in [
+    own_pages: list[tuple[str, list[str]]] = [
         ("our origin", [f"Origin: {nginx.origin}", "Sec-Fetch-Site: same-origin"]),
         ("no page", ["Sec-Fetch-Site: none"]),
         ("no such fields", []),
-    ]:
+    ]
+    for label, fields in own_pages:
         came = nginx.ask("POST", "/v1/answer", SECOND, ANSWER, fields)
         tally.status(came, 200, label)
     tally.holds(len(office.seen) == before + 3, "these reach the office", f"{len(office.seen) - before}")
 
 
 @part("the page through nginx", ["nginx", "openssl"])
-def pages(room, program):
+def pages(room: str, program: str) -> None:
     with fronted(room, program) as (nginx, _):
         files = set()
         for path in ("/", "/candidate/", "/clerk/", "/hi/", "/candidate/hi/", "/clerk/hi/"):
@@ -303,7 +307,7 @@ def pages(room, program):
 
 
 @part("the clerk's requests by address", ["nginx", "openssl"])
-def clerks(room, program):
+def clerks(room: str, program: str) -> None:
     with fronted(room, program) as (nginx, _):
         for path, status in [
             ("/v1/cut", 403),
@@ -329,7 +333,7 @@ def clerks(room, program):
 
 
 @part("the clerk's token and the lists by address", ["nginx", "openssl"])
-def clerks_alone(room, program):
+def clerks_alone(room: str, program: str) -> None:
     """With the file of `begin` the clerk's token opens nothing from elsewhere, and with PUBLIC=cutoffs neither rounds nor lists are for everybody."""
     os.makedirs(f"{room}/desk")
     with open(f"{room}/desk/clerk-token.conf", "w", encoding="ascii") as it:
@@ -358,12 +362,12 @@ def clerks_alone(room, program):
 
 
 @part("limits by address", ["nginx", "openssl"])
-def by_address(room, program):
+def by_address(room: str, program: str) -> None:
     with fronted(room, program) as (nginx, _):
         nginx.ask("POST", "/v1/cut", CLERK, CUT, source=CLERK_AT)
         guess = request("GET", "/v1/seat/2", THIRD, host=f"{HOST}:{nginx.port}")
 
-        def guesses():
+        def guesses() -> Optional[Reply]:
             """What comes last to up to 500 guesses over one connection."""
             with nginx.connected("127.0.0.2") as link:
                 held, came = b"", None
@@ -374,7 +378,7 @@ def by_address(room, program):
                         break
             return came
 
-        came = max(in_threads([guesses] * 8), key=lambda it: getattr(it, "status", 0))
+        came = max((it for it in in_threads([guesses] * 8) if isinstance(it, Reply)), key=lambda it: it.status)
         tally.holds((came.status, came.body) == (429, BUSY), "guesses from one address are slowed", f"{came}")
         has_fields(came, "429", "no-store")
         came = nginx.ask("GET", "/v1/seat/2", SECOND, source="127.0.0.3")
@@ -386,14 +390,14 @@ def by_address(room, program):
 # ---- many clients
 
 
-def longest(nginx, before):
+def longest(nginx: Front, before: int) -> float:
     return max(float(it["secs"]) for it in nginx.logged()[before:])
 
 
-def sixteen(ask, label):
+def sixteen(ask: Ask, label: str) -> None:
     """16 clients with 40 requests each, each from an address of its own."""
 
-    def client(number):
+    def client(number: int) -> list[tuple[Reply, float]]:
         return [ask(f"127.0.2.{number + 1}", at) for at in range(40)]
 
     given, secs = timed(lambda: in_threads([functools.partial(client, it) for it in range(16)]))
@@ -403,11 +407,11 @@ def sixteen(ask, label):
     tally.holds(slow < SLOW, f"{label}: no request above {SLOW} s", f"the longest took {slow:.2f} s of {secs:.1f}")
 
 
-def over_kept(linked, host):
+def over_kept(linked: Callable[[str], socket.socket], host: str) -> Ask:
     """How a client asks for the state over one connection of its own, which it keeps."""
     links = {}
 
-    def ask(source, _):
+    def ask(source: str, _: object) -> tuple[Reply, float]:
         if source not in links:
             links[source] = linked(source)
         links[source].sendall(request("GET", "/v1/state", host=host))
@@ -417,7 +421,7 @@ def over_kept(linked, host):
 
 
 @part("16 clients at once", ["nginx", "openssl"])
-def at_once(room, program):
+def at_once(room: str, program: str) -> None:
     """Each of them asks for the seats of a generated season, and for its first round."""
     season = called([program, "generate", "160", "7", "text"]).partition(b"[requests]")[0]
     with fronted(room, program, season, workers=4) as (nginx, _):
@@ -425,7 +429,7 @@ def at_once(room, program):
         tally.status(came, 200, "a cut of a generated season")
         before = len(nginx.logged())
 
-        def ask(source, at):
+        def ask(source: str, at: int) -> tuple[Reply, float]:
             cand = (int(source.rpartition(".")[2]) * 40 + at) % 160 + 1
             return timed(lambda: nginx.ask("GET", f"/v1/seat/{cand}", f"g{cand:08}", source=source))
 
@@ -436,7 +440,7 @@ def at_once(room, program):
 
 
 @part("silent and half-sent clients", ["nginx", "openssl"])
-def slow_clients(room, program):
+def slow_clients(room: str, program: str) -> None:
     """With one worker of the office."""
     with fronted(room, program, workers=1) as (nginx, _):
         links = [nginx.connected(f"127.0.3.{it + 1}") for it in range(60)]
@@ -464,11 +468,11 @@ def slow_clients(room, program):
 
 
 @part("the office is killed and started under load", ["nginx", "openssl"])
-def killed(room, program):
+def killed(room: str, program: str) -> None:
     with fronted(room, program) as (nginx, office):
         stop, came = threading.Event(), []
 
-        def client(source):
+        def client(source: str) -> None:
             while not stop.is_set():
                 came.append(nginx.ask("GET", "/v1/state", source=source))
                 time.sleep(0.02)
@@ -495,11 +499,11 @@ def killed(room, program):
 
 
 @part("the office uses up its connections", ["nginx", "openssl"])
-def used_up(room, program):
+def used_up(room: str, program: str) -> None:
     with fronted(room, program, conns=50) as (nginx, office):
         stop, ends, seen = threading.Event(), [], []
 
-        def restarter():
+        def restarter() -> None:
             while not stop.is_set():
                 try:
                     ends.append(office.child.wait(0.05))
@@ -512,7 +516,7 @@ def used_up(room, program):
         keeper = threading.Thread(target=restarter, daemon=True)
         keeper.start()
 
-        def client(number):
+        def client(number: int) -> int:
             done = 0
             for _ in range(60):
                 for again in range(60):
@@ -536,7 +540,7 @@ def used_up(room, program):
 
 
 @contextlib.contextmanager
-def haproxied(room, server, maxconn=64):
+def haproxied(room: str, server: str, maxconn: int = 64) -> Iterator[tuple[str, int]]:
     """haproxy by deploy/haproxy.cfg in front of a server, and its port; afterwards the checks look at its log."""
     cert, port = front.certificate(room), free_port()
     with open(f"{room}/both.pem", "w", encoding="utf-8") as it:
@@ -564,13 +568,13 @@ def haproxied(room, server, maxconn=64):
     finally:
         child.terminate()
         child.wait()
-    log = text_of(f"{room}/haproxy.log")
-    tally.holds("/v1/state" in log, "haproxy logs", log[-200:])
-    no_tokens(log, bundle_of(), "haproxy")
+    told = text_of(f"{room}/haproxy.log")
+    tally.holds("/v1/state" in told, "haproxy logs", told[-200:])
+    no_tokens(told, bundle_of(), "haproxy")
 
 
 @part("haproxy", ["haproxy", "openssl"])
-def haproxy(room, program):
+def haproxy(room: str, program: str) -> None:
     os.makedirs(f"{room}/office")
     with Office(program, f"{room}/office") as office:
         office.start("new", workers=4, bundle=bundle_of())
@@ -578,14 +582,14 @@ def haproxy(room, program):
             through_haproxy(cert, port, office)
 
 
-def through_haproxy(cert, port, office):
+def through_haproxy(cert: str, port: int, office: Office) -> None:
     context = ssl.create_default_context(cafile=cert)
 
-    def linked(source, name=HOST):
+    def linked(source: str, name: str = HOST) -> socket.socket:
         link = socket.create_connection(("127.0.0.1", port), timeout=30, source_address=(source, 0))
         return context.wrap_socket(link, server_hostname=name)
 
-    def ask(method, path, token=None, given=None, fields=(), source=OTHER_AT, host=HOST):
+    def ask(method: str, path: str, token: Optional[str] = None, given: Optional[bytes] = None, fields: Sequence[str] = (), source: str = OTHER_AT, host: str = HOST) -> Reply:
         with linked(source) as link:
             link.sendall(request(method, path, token, given, fields, host))
             return read_reply(link)[0]
@@ -613,15 +617,16 @@ def through_haproxy(cert, port, office):
         it.close()
 
 
-def haproxy_refuses(ask, port):
+def haproxy_refuses(ask: Callable[..., Reply], port: int) -> None:
     """What haproxy refuses by itself, and our own origin."""
-    for label, status, how in [
+    tries: list[tuple[str, int, dict[str, Any]]] = [
         ("another Host", 421, {"host": "evil.example"}),
         ("a list of hosts", 421, {"host": f"evil.example,{HOST}"}),
         ("a foreign origin", 403, {"fields": ["Origin: https://evil.example"]}),
         ("a page of another site", 403, {"fields": ["Sec-Fetch-Site: cross-site"]}),
         ("our origin", 200, {"fields": [f"Origin: https://{HOST}:{port}"]}),
-    ]:
+    ]
+    for label, status, how in tries:
         came = ask("GET", "/v1/state", **how)
         tally.status(came, status, f"haproxy: {label} -> {status}")
     came = ask("POST", "/v1/cut", CLERK, CUT)
@@ -638,7 +643,7 @@ NEW_NETWORK = 0x40000000
 PROXYD = "/lib/systemd/systemd-socket-proxyd"
 
 
-def in_new_network():
+def in_new_network() -> None:
     """In a child: a network of its own, as PrivateNetwork= gives it, with its loopback up."""
     if ctypes.CDLL(None, use_errno=True).unshare(NEW_NETWORK):
         raise OSError(ctypes.get_errno(), "unshare")
@@ -647,14 +652,14 @@ def in_new_network():
         fcntl.ioctl(it, 0x8914, struct.pack("16sh14x", b"lo", 0x1 | 0x8 | 0x40))
 
 
-def in_network_of(child):
+def in_network_of(child: int) -> None:
     with open(f"/proc/{child}/ns/net", "rb") as it:
         if ctypes.CDLL(None, use_errno=True).setns(it.fileno(), NEW_NETWORK):
             raise OSError(ctypes.get_errno(), "setns")
 
 
 @part("the door of systemd-socket-proxyd", ["nginx", "openssl", "root", "systemd-socket-activate", PROXYD])
-def door(room, program):
+def door(room: str, program: str) -> None:
     """The office in a network of its own: nginx reaches it through the door, and nobody else does."""
     os.makedirs(f"{room}/office")
     with Office(program, f"{room}/office", 8080) as office:
@@ -682,7 +687,7 @@ def door(room, program):
             proxy.wait()
 
 
-def is_closed_to_others(sock):
+def is_closed_to_others(sock: str) -> bool:
     """Whether a user with no rights, in a process of its own, is refused at a socket."""
     child = os.fork()
     if not child:
@@ -699,7 +704,7 @@ def is_closed_to_others(sock):
     return os.waitpid(child, 0)[1] == 0
 
 
-def worker_group():
+def worker_group() -> str:
     """The group of nginx's workers, where root starts it."""
     told = re.search(rb"--group=(\S+)", subprocess.run([found("nginx"), "-V"], stdout=subprocess.PIPE, stderr=subprocess.STDOUT).stdout)
     return told[1].decode() if told else "nogroup"

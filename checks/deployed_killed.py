@@ -5,6 +5,7 @@ import signal
 import sqlite3
 import subprocess
 import sys
+from typing import Callable, Iterable, Iterator, Optional
 
 from cases import READS_STORES
 from deployed import CLERK, CUT, body, bundle_of, directly, part, tally
@@ -41,10 +42,14 @@ case $MODE in
     after) run "$@" > "$ROOM/ran" 2>&1; kill -9 0 ;;
 esac
 """
+# what the office says of a copy of a store, and the answers in it; None where it does not take it
+Rows = Optional[tuple[bytes, list[tuple[int, int, int, int]]]]
+# what a call of go-back came to, and how many calls it made
+Back = tuple[subprocess.CompletedProcess[str], int]
 CALLED = ("cp", "mv", "rm", "mkdir", "mktemp", "sync", "chown", "stat", "cat", "systemctl", "office")
 
 
-def rows_of(program, store, room):
+def rows_of(program: str, store: str, room: str) -> Rows:
     """Returns what the office says of a copy of a store, and the answers in it; None where it does not take it."""
     shutil.rmtree(room, ignore_errors=True)
     os.makedirs(room)
@@ -60,7 +65,12 @@ def rows_of(program, store, room):
     return ran.stdout, rows
 
 
-def bytes_of(store):
+def count_of(rows: Rows) -> Optional[int]:
+    """Returns how many answers these are."""
+    return len(rows[1]) if rows else None
+
+
+def bytes_of(store: str) -> list[bytes]:
     """Returns the bytes of a store and of its log."""
     found = []
     for end in ("", "-wal"):
@@ -70,7 +80,7 @@ def bytes_of(store):
     return found
 
 
-def answered(program, room, begins, turns):
+def answered(program: str, room: str, begins: bool, turns: Iterable[int]) -> None:
     """Lets an office answer these turns, and kills it, so that its log is left."""
     with Office(program, room) as office:
         office.start("new" if begins else "kept", bundle=bundle_of() if begins else b"")
@@ -85,7 +95,7 @@ def answered(program, room, begins, turns):
 # ---- keep-copy --check
 
 
-def copies_made(program, room):
+def copies_made(program: str, room: str) -> str:
     """A folder with copies of a season at five moments, of which the last is not checked."""
     folder = f"{room}/copies"
     for number in range(5):
@@ -98,19 +108,19 @@ def copies_made(program, room):
     return folder
 
 
-def driven(program, at, mode, folder, second):
+def driven(program: str, at: int, mode: str, folder: str, second: str) -> int:
     words = [sys.executable, "-c", DRIVER, str(at), mode, f"{DEPLOY}/keep-copy", "--check", folder, second]
     return subprocess.run(words, capture_output=True, env={**SYSTEM, "OFFICE": program}).returncode
 
 
 @part("keep-copy --check killed at each call")
-def check_killed(room, program):
+def check_killed(room: str, program: str) -> None:
     if not READS_STORES:
         tally.skips("keep-copy --check killed at each call", "SQLite 3.37 in Python")
         return
     folder = copies_made(program, room)
     wanted = {it: bytes_of(f"{folder}/{it}/season.db") for it in os.listdir(folder)}
-    counts = {len(rows_of(program, f"{folder}/{it}/season.db", f"{room}/look")[1]) for it in wanted}
+    counts = {count_of(rows_of(program, f"{folder}/{it}/season.db", f"{room}/look")) for it in wanted}
     tally.same(counts, {6, 12, 18, 24, 30}, "five copies, each with more answers")
     plain = (f"{room}/plain", f"{room}/plain-second")
     shutil.copytree(folder, plain[0])
@@ -135,7 +145,7 @@ def check_killed(room, program):
     tally.holds(kills > 40, "keep-copy --check is killed at many calls", f"{kills}")
 
 
-def torn(pair, wanted):
+def torn(pair: tuple[str, str], wanted: dict[str, list[bytes]]) -> Iterator[str]:
     """Returns the copies that are marked as good and are not byte by byte what was copied."""
     for folder in pair:
         for name in os.listdir(folder) if os.path.isdir(folder) else []:
@@ -146,7 +156,7 @@ def torn(pair, wanted):
 # ---- go-back
 
 
-def gone_back(program, room, at, mode, copy):
+def gone_back(program: str, room: str, at: int, mode: str, copy: str) -> Back:
     """Calls go-back over a store, with stand-ins for what it calls."""
     with open(f"{room}/count", "w", encoding="ascii") as it:
         it.write("0")
@@ -156,7 +166,7 @@ def gone_back(program, room, at, mode, copy):
         return ran, int(it.read())
 
 
-def put_shims(room):
+def put_shims(room: str) -> None:
     os.makedirs(f"{room}/bin")
     for name in CALLED:
         with open(f"{room}/bin/{name}", "w", encoding="utf-8") as it:
@@ -165,7 +175,7 @@ def put_shims(room):
 
 
 @part("go-back killed at each call", ["root"])
-def back_killed(room, program):
+def back_killed(room: str, program: str) -> None:
     if not READS_STORES:
         tally.skips("go-back killed at each call", "SQLite 3.37 in Python")
         return
@@ -176,7 +186,7 @@ def back_killed(room, program):
     copy = f"{room}/copies/{os.listdir(f'{room}/copies')[0]}"
     answered(program, f"{room}/made", False, range(6, 8))
     old, new = (rows_of(program, f"{it}/season.db", f"{room}/look") for it in (f"{room}/made", copy))
-    tally.same((len(old[1]), len(new[1])), (21, 15), "the store and the copy, each with its log")
+    tally.same((count_of(old), count_of(new)), (21, 15), "the store and the copy, each with its log")
     calls = None
     for mode in ("before", "in", "after"):
         at = 0
@@ -198,7 +208,7 @@ def back_killed(room, program):
     refusals(room, program, copy)
 
 
-def after_kill(program, room, old, new):
+def after_kill(program: str, room: str, old: Rows, new: Rows) -> list[str]:
     """What is wrong with the store that a killed call left: it is the old one, or the copy, or there is none."""
     if not os.path.exists(f"{room}/at/season.db") or bytes_of(f"{room}/at/season.db") == bytes_of(f"{room}/made/season.db"):
         return []
@@ -206,7 +216,7 @@ def after_kill(program, room, old, new):
     return [] if came in (old, new) else [f"a start takes {came and len(came[1])} answers"]
 
 
-def kept_aside(room):
+def kept_aside(room: str) -> bool:
     """Whether the old store and its log are in the folders next to the store, byte by byte; two calls may have shared them out."""
     found = []
     for at, _, names in os.walk(f"{room}/at"):
@@ -216,9 +226,14 @@ def kept_aside(room):
     return all(it in found for it in bytes_of(f"{room}/made/season.db"))
 
 
-def refusals(room, program, copy):
+def refusals(room: str, program: str, copy: str) -> None:
     """go-back takes no copy that lacks a file."""
-    for label, spoil in (("its log", lambda it: os.remove(f"{it}/season.db-wal")), ("of.txt", lambda it: os.remove(f"{it}/of.txt")), ("a part of its log", lambda it: os.truncate(f"{it}/season.db-wal", 5000))):
+    spoils: tuple[tuple[str, Callable[[str], None]], ...] = (
+        ("its log", lambda it: os.remove(f"{it}/season.db-wal")),
+        ("of.txt", lambda it: os.remove(f"{it}/of.txt")),
+        ("a part of its log", lambda it: os.truncate(f"{it}/season.db-wal", 5000)),
+    )
+    for label, spoil in spoils:
         wrong = f"{room}/wrong/{os.path.basename(copy)}"
         shutil.rmtree(f"{room}/wrong", ignore_errors=True)
         shutil.copytree(copy, wrong)

@@ -9,10 +9,11 @@ import os
 import shutil
 import subprocess
 import time
+from typing import Callable, Iterator, TypeVar
 
 from cases import READS_STORES
 from deployed import part, tally
-from deployed_killed import after_kill, answered, bytes_of, copies_made, driven, gone_back, kept_aside, put_shims, rows_of, torn
+from deployed_killed import Rows, after_kill, answered, bytes_of, copies_made, driven, gone_back, kept_aside, put_shims, rows_of, torn
 from front import DEPLOY, SYSTEM, called
 
 NEEDS = ["root", "mount", "mkfs.ext4"]
@@ -20,11 +21,13 @@ NEEDS = ["root", "mount", "mkfs.ext4"]
 DISKS = ("data=writeback,noauto_da_alloc", "data=writeback,noauto_da_alloc,nodelalloc")
 CUTS = ("what was synced", "all names too")
 
+Given = TypeVar("Given")
+
 
 class Disk:
     """A file system in a file, at a folder."""
 
-    def __init__(self, room, at, how, put):
+    def __init__(self, room: str, at: str, how: str, put: Callable[[], object]) -> None:
         """Makes the file system, and puts files into it."""
         self.image, self.at, self.how = f"{room}/disk-{DISKS.index(how)}.img", at, how
         os.makedirs(at, exist_ok=True)
@@ -36,7 +39,7 @@ class Disk:
         shutil.copyfile(self.image, f"{self.image}.begin")
 
     @contextlib.contextmanager
-    def mounted(self, image):
+    def mounted(self, image: str) -> Iterator[None]:
         called(["mount", "-o", f"loop,commit=300,{self.how}", image, self.at])
         try:
             yield
@@ -46,10 +49,10 @@ class Disk:
                     break
                 time.sleep(0.05)
 
-    def cut(self, call):
+    def cut(self, call: Callable[[], Given]) -> tuple[Given, list[tuple[str, str]]]:
         """Lets a call change the files that were put, and cuts the power; returns what the call gives, and the files that a disk may have then."""
         shutil.copyfile(f"{self.image}.begin", self.image)
-        left = []
+        left: list[tuple[str, str]] = []
         with self.mounted(self.image):
             came = call()
             for label in CUTS:
@@ -63,7 +66,7 @@ class Disk:
 
 
 @part("go-back under a lost power", NEEDS)
-def back_without_power(room, program):
+def back_without_power(room: str, program: str) -> None:
     if not READS_STORES:
         tally.skips("go-back under a lost power", "SQLite 3.37 in Python")
         return
@@ -74,7 +77,8 @@ def back_without_power(room, program):
     copy = f"{room}/copies/{os.listdir(f'{room}/copies')[0]}"
     answered(program, f"{room}/made", False, range(6, 8))
     old, new = (rows_of(program, f"{it}/season.db", f"{room}/look") for it in (f"{room}/made", copy))
-    disks, seen = [Disk(room, f"{room}/at", how, lambda: shutil.copytree(f"{room}/made", f"{room}/at", dirs_exist_ok=True)) for how in DISKS], set()
+    disks = [Disk(room, f"{room}/at", how, lambda: shutil.copytree(f"{room}/made", f"{room}/at", dirs_exist_ok=True)) for how in DISKS]
+    seen: set[str] = set()
     for at, mode in itertools.product(range(1, 200), ("in", "after")):
         disk = disks[(at + (mode == "in")) % 2]
         (ran, _), left = disk.cut(functools.partial(gone_back, program, room, at, mode, copy))
@@ -85,7 +89,7 @@ def back_without_power(room, program):
     tally.holds(at > 15 and seen == {"none", "the old one", "the copy"}, "go-back loses its power at many calls", f"{at} {seen}")
 
 
-def odd_stores(disk, program, room, copy, left, old, new, seen):
+def odd_stores(disk: Disk, program: str, room: str, copy: str, left: list[tuple[str, str]], old: Rows, new: Rows, seen: set[str]) -> Iterator[str]:
     """What is wrong with the stores that a disk may have after a cut, and with the next call over each; notes which stores there were."""
     for label, image in left:
         with disk.mounted(image):
@@ -102,7 +106,7 @@ def odd_stores(disk, program, room, copy, left, old, new, seen):
 
 
 @part("keep-copy --check under a lost power", NEEDS)
-def check_without_power(room, program):
+def check_without_power(room: str, program: str) -> None:
     if not READS_STORES:
         tally.skips("keep-copy --check under a lost power", "SQLite 3.37 in Python")
         return

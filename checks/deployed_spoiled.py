@@ -11,6 +11,7 @@ import os
 import shutil
 import sqlite3
 import subprocess
+from typing import Callable, Iterator, Optional
 
 from deployed import ANSWER, CLERK, CUT, SECOND, bundle_of, directly, part, tally
 from deployed_files import script, strong
@@ -30,8 +31,12 @@ JUNK = {
     "page.html": b"<!doctype html><p>404",
 }
 
+# a way of spoiling a file, and its bytes then; and what a program came to over it: its status, what it said, and what it left
+Spoiled = tuple[str, bytes]
+Came = tuple[int, str, list[str]]
 
-def put_junk(room):
+
+def put_junk(room: str) -> list[str]:
     for name, data in JUNK.items():
         with open(f"{room}/{name}", "wb") as it:
             it.write(data)
@@ -39,14 +44,14 @@ def put_junk(room):
     return [f"{room}/{it}" for it in (*JUNK, "folder", "missing.csv", "no/such.csv")]
 
 
-def says(label, came, statuses, *words):
+def says(label: str, came: tuple[int, str], statuses: tuple[int, ...], *words: str) -> None:
     status, wrote = came
     right = status in statuses and "Traceback" not in wrote and wrote.strip() and all(it in wrote for it in words)
     tally.holds(right, label, f"{status} {wrote[-400:]}")
 
 
 @part("announce over spoiled files")
-def announce_spoiled(room, program):
+def announce_spoiled(room: str, program: str) -> None:
     os.makedirs(f"{room}/papers")
     for label, data, wanted in (
         ("UTF-8 with a mark", NAMES.encode("utf-8-sig"), "भौतिकी"),
@@ -70,7 +75,7 @@ def announce_spoiled(room, program):
 
 
 @part("begin and counts over spoiled files")
-def others_spoiled(room, program):
+def others_spoiled(room: str, program: str) -> None:
     os.makedirs(f"{room}/stores")
     store = f"{room}/stores/season.db"
     for path in put_junk(room):
@@ -89,7 +94,7 @@ def others_spoiled(room, program):
     odd_stores(room, program, given)
 
 
-def marked(room):
+def marked(room: str) -> bytes:
     """The database without a table in which `begin` lets the office begin: what a begin leaves that is killed before the office runs."""
     with contextlib.closing(sqlite3.connect(f"{room}/marked.db")) as base:
         base.executescript("PRAGMA application_id = 0x4E616368; PRAGMA user_version = 1;")
@@ -97,17 +102,18 @@ def marked(room):
         return it.read()
 
 
-def odd_stores(room, program, given):
+def odd_stores(room: str, program: str, given: bytes) -> None:
     """Stores that are there already: what an interrupted begin left is taken, and everything else is left as it is."""
     store = f"{room}/stores/season.db"
-    for label, files, is_taken in (
+    stores: tuple[tuple[str, dict[str, Optional[bytes]], bool], ...] = (
         ("an empty file", {"": b""}, True),
         ("an empty file with the first byte of a log", {"": b"", "-wal": b"\0"}, True),
         ("an empty file with the head of a log", {"": b"", "-wal": bytes(41)}, True),
         ("a marked database without a table, and half of another", {"": marked(room), ".part": b"SQLite"}, True),
         ("a text", {"": b"hello\n"}, False),
         ("another database", {"": None}, False),
-    ):
+    )
+    for label, files, is_taken in stores:
         for end, data in files.items():
             if data is None:
                 base = sqlite3.connect(store)
@@ -125,12 +131,12 @@ def odd_stores(room, program, given):
         else:
             now = {it: open(f"{room}/stores/{it}", "rb").read() for it in os.listdir(f"{room}/stores")}
             tally.holds(status == 3 and "begun once" not in wrote and now == held, f"begin leaves {label}", f"{status} {wrote}")
-        for it in os.listdir(f"{room}/stores"):
-            os.remove(f"{room}/stores/{it}")
+        for name in os.listdir(f"{room}/stores"):
+            os.remove(f"{room}/stores/{name}")
 
 
 @part("begin refuses more weak tokens")
-def more_weak(room, program):
+def more_weak(room: str, program: str) -> None:
     given, tokens = strong(bundle_of())
     for label, token in (
         ("md5sum of the number with a line end", hashlib.md5(b"1\n").hexdigest()),
@@ -146,7 +152,7 @@ def more_weak(room, program):
 # ---- one file spoiled in many ways
 
 
-def cut_short(data):
+def cut_short(data: bytes) -> Iterator[Spoiled]:
     """Beginnings and ends of a file, and files with a byte that is another one."""
     size = len(data)
     for tenth in range(1, 11):
@@ -157,7 +163,7 @@ def cut_short(data):
         yield f"a zero byte at {at}", data[:at] + b"\0" + data[at:]
 
 
-def written_otherwise(data):
+def written_otherwise(data: bytes) -> Iterator[Spoiled]:
     """The same text in other letters, signs and line ends, or the bytes where they are none."""
     text = data.decode("utf-8", errors="replace").removeprefix("\ufeff")
     for name in ("utf-16", "utf-16-le", "utf-16-be", "utf-32", "utf-7", "cp1252", "cp037", "shift_jis"):
@@ -170,7 +176,7 @@ def written_otherwise(data):
         yield f"with {label}", (text.replace(old, given) if old else text.upper()).encode()
 
 
-def made_of(data):
+def made_of(data: bytes) -> Iterator[Spoiled]:
     """Files made of a file: twice, turned around, packed, in another format, or with something before or behind it."""
     lines = data.split(b"\n")
     yield from (
@@ -182,17 +188,17 @@ def made_of(data):
     )
 
 
-def spoilt(data):
+def spoilt(data: bytes) -> list[Spoiled]:
     """A file spoiled in more than 90 ways, each with its name."""
     found = [*cut_short(data), *written_otherwise(data), *made_of(data), *JUNK.items()]
     tally.holds(len(found) > 90, "a file is spoiled in more than 90 ways", f"{len(found)}")
     return found
 
 
-def tried_with(room, data, call):
+def tried_with(room: str, data: bytes, call: Callable[[str], Came]) -> list[str]:
     """What a program says of a file spoiled in each way, and whether it changed what was there: none may end with a traceback, and each refusal has words."""
 
-    def fault(label, spoiled, number):
+    def fault(label: str, spoiled: bytes, number: int) -> Optional[str]:
         folder = f"{room}/{number}"
         os.makedirs(folder)
         with open(f"{folder}/spoiled", "wb") as it:
@@ -207,7 +213,7 @@ def tried_with(room, data, call):
         return [it for it in lanes.map(fault, *zip(*((label, it, at) for at, (label, it) in enumerate(spoilt(data))))) if it]
 
 
-def store_of(room, program):
+def store_of(room: str, program: str) -> bytes:
     """The bytes of a store with a cut and an answer."""
     with Office(program, room) as office:
         office.start("new", bundle=bundle_of())
@@ -220,25 +226,25 @@ def store_of(room, program):
 
 
 @part("four programs over a file spoiled in 90 ways")
-def spoiled_in_many_ways(room, program):
+def spoiled_in_many_ways(room: str, program: str) -> None:
     """tools/season, announce, begin and counts, each over its own kind of file."""
 
-    def seasons(folder):
+    def seasons(folder: str) -> Came:
         put_season(folder)
         os.replace(f"{folder}/spoiled", f"{folder}/register.csv")
         status, wrote, said = season(folder, "--yes")
         return status, said, [it for it in os.listdir(folder) if it in ("tokens.csv", "names.csv")] + [it for it in (wrote,) if it and status]
 
-    def announces(folder):
+    def announces(folder: str) -> Came:
         os.makedirs(f"{folder}/papers")
         return *script("announce", [f"{folder}/papers", "names", f"{folder}/spoiled"], program), os.listdir(f"{folder}/papers")
 
-    def begins(folder):
+    def begins(folder: str) -> Came:
         os.makedirs(f"{folder}/store")
         with open(f"{folder}/spoiled", "rb") as it:
             return *script("begin", [f"{folder}/store/season.db"], program, it.read()), os.listdir(f"{folder}/store")
 
-    def counts(folder):
+    def counts(folder: str) -> Came:
         return *script("counts", [f"{folder}/spoiled"], program), [it for it in os.listdir(folder) if it != "spoiled"]
 
     bundle, _ = strong(bundle_of())
@@ -254,7 +260,7 @@ def spoiled_in_many_ways(room, program):
 REGISTER = "id,category,traits,m1,Name\n" + "".join(f"{it},GEN,-,{it},{name}\n" for it, name in enumerate(("आशा कुमारी", "José Ã", "ಅನಿತಾ", "زینب", '"Li, Wei"'), 1))
 
 
-def put_season(room):
+def put_season(room: str) -> None:
     for name, text in (
         ("register.csv", REGISTER),
         ("matrix.csv", "programme,institute,list,step,seats\nA,I1,1,OPEN,1\n"),
@@ -265,13 +271,13 @@ def put_season(room):
             it.write(text)
 
 
-def season(room, *words):
+def season(room: str, *words: str) -> tuple[int, str, str]:
     ran = subprocess.run([f"{TOP}/tools/season", *words, room], capture_output=True, text=True)
     return ran.returncode, ran.stdout, ran.stderr
 
 
 @part("tokens.csv in other encodings")
-def tokens_saved(room, program):
+def tokens_saved(room: str, program: str) -> None:
     put_season(room)
     _, bundle, _ = season(room)
     with open(f"{room}/tokens.csv", "rb") as it:
@@ -285,15 +291,15 @@ def tokens_saved(room, program):
         ("tabs", text.replace(",", "\t").replace('"Li\t Wei"', "Li Wei").encode("utf-16")),
         ("rows in another order, with blanks", ("\r\n".join([text.splitlines()[0], "", *(it.replace(",", " , ", 1) for it in text.splitlines()[:0:-1])]) + "\r\n").encode()),
     ):
-        with open(f"{room}/tokens.csv", "wb") as it:
-            it.write(saved)
+        with open(f"{room}/tokens.csv", "wb") as to:
+            to.write(saved)
         status, again, said = season(room)
         tally.holds(status == 0 and again == bundle, f"tokens.csv as {label} gives the same tokens", said[-300:])
         tally.holds(open(f"{room}/tokens.csv", "rb").read() == data, f"tokens.csv has its letters again after {label}")
     refused_tokens(room, text)
 
 
-def refused_tokens(room, text):
+def refused_tokens(room: str, text: str) -> None:
     """Files of tokens that cannot be read: nothing is written, and nobody is told to throw tokens away."""
     rows = list(csv.reader(io.StringIO(text)))
     spoiled = {
@@ -312,7 +318,7 @@ def refused_tokens(room, text):
         tally.holds(open(f"{room}/tokens.csv", "rb").read() == given, f"tokens.csv with {label} is left as it is")
 
 
-def saved_by(office, room, source, to, *words):
+def saved_by(office: str, room: str, source: str, to: str, *words: str) -> None:
     """Saves a file by the spreadsheet program LibreOffice, in a profile of its own."""
     how = [office, "--headless", f"-env:UserInstallation=file://{room}/profile", *words, "--convert-to", to, "--outdir", f"{room}/saved", source]
     subprocess.run(how, check=True, capture_output=True, timeout=180, env={**SYSTEM, "HOME": room})
@@ -322,7 +328,7 @@ READ_AS = "--infilter=CSV:44,34,UTF8,1"
 SAVED_AS = {"UTF-8": "csv:Text - txt - csv (StarCalc):44,34,76,1", "UTF-8 with semicolons": "csv:Text - txt - csv (StarCalc):59,34,76,1", "Windows-1252": "csv:Text - txt - csv (StarCalc):44,34,1,1"}
 
 
-def saved_again(room, stem):
+def saved_again(room: str, stem: str) -> Iterator[tuple[str, str]]:
     """Saves a file of a folder in each form, directly and through a workbook; yields what it is, and where. A double click opens it so: each field is guessed by its form."""
     office = found("soffice")
     saved_by(office, room, f"{room}/{stem}.csv", "xlsx", READ_AS)
@@ -333,7 +339,7 @@ def saved_again(room, stem):
 
 
 @part("tokens.csv through LibreOffice and back", [] if found("soffice") else ["soffice"], rooms=None)
-def tokens_through(room, program):
+def tokens_through(room: str, program: str) -> None:
     put_season(room)
     _, bundle, _ = season(room)
     data = text_of(f"{room}/tokens.csv")
@@ -348,7 +354,7 @@ def tokens_through(room, program):
     tally.holds(status == 3 and "save it as CSV UTF-8" in said and "may be sent already" in said, "a workbook in place of tokens.csv", said[-300:])
 
 
-def read_by(program, folder, files, people):
+def read_by(program: str, folder: str, files: dict[str, str], people: dict[str, str]) -> tuple[list[int], str, dict[str, Optional[int]], str, str]:
     """What announce and counts make of a file of names and one of tokens: their statuses, the names, who is found by number and token, and who has not answered."""
     os.makedirs(f"{folder}/papers")
     names = script("announce", [f"{folder}/papers", "names", files["names"]], program)
@@ -362,7 +368,7 @@ def read_by(program, folder, files, people):
 
 
 @part("announce, begin and counts over what LibreOffice saved", [] if found("soffice") else ["soffice"], rooms=None)
-def read_after(room, program):
+def read_after(room: str, program: str) -> None:
     put_season(room)
     with open(f"{room}/register.csv", "w", encoding="utf-8") as it:
         it.write(REGISTER.replace("id,", "application number,").replace("\n", "\n26031000000").removesuffix("26031000000"))

@@ -5,7 +5,7 @@ Where the machine has `openapi_spec_validator` the document as a whole is asked 
 import functools
 import json
 import re
-from typing import Any, Iterator, Optional
+from typing import Any, Optional
 
 from plain_http import PHRASES, Served, message, reply_bytes
 

@@ -1,7 +1,7 @@
 """What the register, the choices and the settings of a season say: tools/season reads them by this. Each reader reports everything that is wrong, and gives what is right."""
 import difflib
 import re
-from typing import Any, Iterable, Optional, Union
+from typing import Optional, Union
 
 from formats import ALL_CHOICES, ALLOWED, CANDIDATES, CHOICES, MERIT_LISTS, NUMBER, ROUNDS, TOKEN, TRAITS, listed
 from season_columns import CHOICE
