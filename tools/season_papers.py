@@ -31,7 +31,7 @@ class Kept:
         file = os.path.basename(path)
         before = len(findings.causes)
         rows = read(os.path.dirname(path) or ".", file, TOKENS, findings)
-        if len(findings.causes) > before:
+        if len(findings.causes) > before or rows == []:
             findings.causes.append(f"{file}: {NO_TOKENS}")
         if not rows:
             return
