@@ -5,6 +5,7 @@ import dataclasses
 import json
 import re
 import sqlite3
+from typing import Any, Optional
 
 from history import CHOICES, STEPS
 
@@ -12,8 +13,12 @@ TABLES = ("season", "answer", "lift", "allot", "phase")
 # the bodies of replies over HTTP that say what was accepted
 BODIES = re.compile(r'\{"[^{}]*(?:\{[^{}]*\}[^{}]*)*"reply":"(?:noted|answers|raised|published|final|state)"[^{}]*\}')
 
+# the rows of a store by its tables, and a receipt: what was accepted, as the row of its table, or a cut
+Tables = dict[str, list[tuple[Any, ...]]]
+Receipt = tuple[Any, ...]
 
-def tables_of(path: str) -> dict[str, list[tuple]] | None:
+
+def tables_of(path: str) -> Tables | None:
     """Returns the rows of a store that the office has closed, or None if it has no tables."""
     base = sqlite3.connect(path)
     try:
@@ -28,13 +33,14 @@ def tables_of(path: str) -> dict[str, list[tuple]] | None:
 class Kept:
     """The history that a store kept at its end. Each earlier moment has a beginning of its answers and raises, and the seats of its cuts."""
 
-    tables: dict[str, list[tuple]]
+    tables: Tables
 
     @property
     def cuts(self) -> int:
-        return self.tables["phase"][0][1]
+        count: int = self.tables["phase"][0][1]
+        return count
 
-    def fault_of(self, found: dict[str, list[tuple]] | None, receipts: set[tuple], has_begun: bool) -> str | None:
+    def fault_of(self, found: Tables | None, receipts: set[Receipt], has_begun: bool) -> str | None:
         """Returns why these tables are no moment of the history, or lack what a receipt says."""
         if found is None or not found["phase"]:
             if has_begun or receipts:
@@ -63,7 +69,9 @@ class Receipts:
     """What the bytes say that left the office: accepted answers and raises, and cuts, as replies in text or over HTTP, also where they reply to questions."""
 
     def __init__(self, rounds: int):
-        self.rounds, self.found, self.held = rounds, set(), {}
+        self.rounds = rounds
+        self.found: set[Receipt] = set()
+        self.held: dict[int, str] = {}
 
     def add(self, descriptor: int, given: bytes) -> None:
         """Takes bytes that were sent over a descriptor. A line of text counts once it is whole, and a reply over HTTP at once."""
@@ -74,7 +82,7 @@ class Receipts:
         for line in lines:
             self.add_line(line.split(" "))
 
-    def add_body(self, told: dict) -> None:
+    def add_body(self, told: dict[str, Any]) -> None:
         said = told["reply"]
         if said == "noted":
             self.found.add(("answer", told["window"], told["cand"], told["turn"], CHOICES.index(told["choice"])))
@@ -83,7 +91,7 @@ class Receipts:
         elif said == "raised":
             self.found.add(("lift", told["window"], "ABCD".index(told["programme"]), STEPS.index(told["step"]), told["seats"]))
         elif said in ("published", "state", "final"):
-            self.add_cuts({"published": told.get("round"), "state": told.get("now"), "final": self.rounds + 1}[said])
+            self.add_cuts(told["round"] if said == "published" else told["now"] if said == "state" else self.rounds + 1)
 
     def add_line(self, words: list[str]) -> None:
         if words[0] == "noted" and len(words) == 7:

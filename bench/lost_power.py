@@ -9,11 +9,14 @@ import itertools
 import os
 import random
 import struct
-from collections.abc import Iterator
+from collections.abc import Callable, Iterator
+from typing import Optional
 
 HEAD = struct.Struct("<6Q")
 SECTORS = (512, 4096)
 MOST_PENDING, TORN_EACH, DRAWS = 10, 6, 3
+# which operations are done, by their id: each whole, or only in these parts of its bytes
+Parts = dict[int, Optional[list[tuple[int, int]]]]
 
 
 @dataclasses.dataclass
@@ -64,11 +67,12 @@ class Done:
                 content[self.offset + begin : self.offset + end] = self.bytes[begin:end]
 
 
-class File:
-    """A file: what the disk has for sure, and what was done to it since."""
+class Changed:
+    """What was done to a file or a folder since the disk has it for sure, and the syncs that have begun."""
 
-    def __init__(self, content: bytes = b""):
-        self.sure, self.pending, self.begun = bytearray(content), [], {}
+    def __init__(self) -> None:
+        self.pending: list[Done] = []
+        self.begun: dict[int, int] = {}
 
     def sync_began(self, number: int) -> None:
         self.begun[number] = len(self.pending)
@@ -85,13 +89,25 @@ class File:
         return count > 0
 
     def settle(self, done: Done) -> None:
+        """Moves one operation to the disk."""
+        raise NotImplementedError
+
+
+class File(Changed):
+    """A file: what the disk has for sure, and what was done to it since."""
+
+    def __init__(self, content: bytes = b"") -> None:
+        super().__init__()
+        self.sure = bytearray(content)
+
+    def settle(self, done: Done) -> None:
         done.on(self.sure)
 
 
-class Folder(File):
+class Folder(Changed):
     """The names of a folder, and the files that they name."""
 
-    def __init__(self, names: dict[str, int]):
+    def __init__(self, names: dict[str, int]) -> None:
         super().__init__()
         self.sure = dict(names)
 
@@ -121,7 +137,8 @@ class Disk:
 
     def moved(self, event: Event) -> bool:
         """Takes one event; returns whether what a lost power may leave has changed."""
-        return getattr(self, f"moved_{event.kind}", lambda _: False)(event)
+        take: Callable[[Event], bool] = getattr(self, f"moved_{event.kind}", lambda _: False)
+        return take(event)
 
     def moved_O(self, event: Event) -> bool:
         if event.bytes.endswith(b"/"):
@@ -160,7 +177,7 @@ class Disk:
         self.syncs += 1
         return self.of_sync(event).sync_ended(event.offset, event.result == 0 and event.offset != self.without_sync)
 
-    def of_sync(self, event: Event) -> File:
+    def of_sync(self, event: Event) -> Changed:
         return self.folder if event.file in self.folders else self.files[event.file]
 
     # ---- what may be left
@@ -171,7 +188,7 @@ class Disk:
         names = list(self.folder.pending)
         yield from self.with_names(names, {})
         yield from self.with_names([], {})
-        whole = {id(done): None for _, done in every}
+        whole: Parts = {id(done): None for _, done in every}
         yield self.state(names, whole)
         yield self.state(names, {})
         for some in self.subsets(every):
@@ -184,18 +201,18 @@ class Disk:
                 yield self.state(names, {id(done): mixed(done, unit, draws) for _, done in every if done.kind == "W" or draws.random() < 0.5})
         yield from self.apart(names, every, draws)
 
-    def with_names(self, names: list[Done], parts: dict) -> Iterator[State]:
+    def with_names(self, names: list[Done], parts: Parts) -> Iterator[State]:
         """Yields each beginning of the changes of names, with all and with nothing of the files' bytes."""
-        whole = {id(done): None for it in self.files.values() for done in it.pending}
+        whole: Parts = {id(done): None for it in self.files.values() for done in it.pending}
         for count in range(len(names) + 1):
             yield self.state(names[:count], whole)
             yield self.state(names[:count], parts)
 
     @staticmethod
-    def few(every: list, draws: random.Random) -> list:
+    def few(every: list[tuple[int, Done]], draws: random.Random) -> list[tuple[int, Done]]:
         return every if len(every) <= MOST_PENDING else [*every[:3], *draws.sample(every[3:-3], MOST_PENDING - 6), *every[-3:]]
 
-    def subsets(self, every: list) -> Iterator[list[Done]]:
+    def subsets(self, every: list[tuple[int, Done]]) -> Iterator[list[Done]]:
         """Yields each operation alone, all but each, and fronts and backs."""
         done = [it for _, it in every]
         some = range(len(done)) if len(done) <= 3 * MOST_PENDING else [*range(MOST_PENDING), *range(len(done) - MOST_PENDING, len(done))]
@@ -205,7 +222,7 @@ class Disk:
             yield done[: at + 1]
             yield done[at:]
 
-    def torn(self, names: list[Done], whole: dict, done: Done, draws: random.Random) -> Iterator[State]:
+    def torn(self, names: list[Done], whole: Parts, done: Done, draws: random.Random) -> Iterator[State]:
         """Yields the front and the back of one write, cut at sectors and at single bytes, with all others and with none."""
         length = len(done.bytes)
         cuts = {at for unit in SECTORS for at in range(unit - done.offset % unit, length, unit)}
@@ -215,9 +232,9 @@ class Disk:
                 yield self.state(names, {**whole, id(done): parts})
                 yield self.state(names, {id(done): parts})
 
-    def apart(self, names: list[Done], every: list, draws: random.Random) -> Iterator[State]:
+    def apart(self, names: list[Done], every: list[tuple[int, Done]], draws: random.Random) -> Iterator[State]:
         """Yields files that have grown and whose new bytes are zeros or garbage."""
-        whole = {id(done): None for _, done in every}
+        whole: Parts = {id(done): None for _, done in every}
         for number, it in self.files.items():
             grown = bytearray(it.sure)
             for done in it.pending:
@@ -227,14 +244,14 @@ class Disk:
                 for filled in (bytes(more), draws.randbytes(more)):
                     yield self.state(names, whole, {number: bytes(it.sure) + filled})
 
-    def state(self, names: list[Done], parts: dict, instead: dict[int, bytes] | None = None) -> State:
+    def state(self, names: list[Done], parts: Parts, instead: dict[int, bytes] | None = None) -> State:
         """The files by their names, where of the pending operations these are done, each whole or in these parts."""
         found = dict(self.folder.sure)
         for it in names:
             Folder.named(found, it)
         return tuple(sorted((name, (instead or {}).get(number) or self.content(number, parts)) for name, number in found.items()))
 
-    def content(self, number: int, parts: dict) -> bytes:
+    def content(self, number: int, parts: Parts) -> bytes:
         it = self.files[number]
         content = bytearray(it.sure)
         for done in it.pending:

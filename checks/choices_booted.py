@@ -3,6 +3,7 @@ import hashlib
 import os
 import re
 import tempfile
+from deployed import Tally
 
 from deployed_files import made_root, seen_in
 from front import found, text_of
@@ -108,7 +109,7 @@ SEEN = {
 NEEDS = ("systemd-nspawn", "setpriv", "nginx", "openssl", "curl")
 
 
-def booted(tally) -> None:
+def booted(tally: Tally) -> None:
     """Installs the lists of choices in a container in which systemd runs, kills the service there, and lets the clerk close."""
     lacking = [*(it for it in NEEDS if not found(it)), *(["root"] if os.geteuid() else [])]
     if lacking:
@@ -127,7 +128,7 @@ def booted(tally) -> None:
         agree(tally, seen)
 
 
-def agree(tally, seen: dict) -> None:
+def agree(tally: Tally, seen: dict[str, str]) -> None:
     """Compares the receipts of the container with the rows that they stand for, and with the clerk's file."""
     rows = []
     for receipt, (name, number, codes) in enumerate(SAVED, 6):

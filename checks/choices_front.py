@@ -5,20 +5,21 @@ import re
 import subprocess
 import tempfile
 import time
-from typing import Iterator
+from typing import Iterable, Iterator, Mapping, Optional
 from urllib.parse import urlencode
 
 import browser as chromium
 from choices_load import Service, called
 from choices_rules import TOKENS, begun
-from front import CLERK_AT, HOST, OTHER_AT, Front, called as ran, found, read_reply, request, text_of
+from deployed import Tally
+from front import CLERK_AT, HOST, OTHER_AT, Front, Reply, called as ran, found, read_reply, request, text_of
 from served import TOP, Wrong
 
 FORM = "Content-Type: application/x-www-form-urlencoded"
 
 
 @contextlib.contextmanager
-def fronted() -> Iterator:
+def fronted() -> Iterator[tuple[str, Front, Service]]:
     """Gives nginx in front of a service over a small season, and afterwards the text of all logs."""
     with tempfile.TemporaryDirectory(prefix="choices-") as room:
         begun(room, numbers=False)
@@ -37,7 +38,7 @@ class Visitor:
     def __init__(self, front: Front, source: str = OTHER_AT) -> None:
         self.front, self.source, self.cookie, self.form = front, source, "", ""
 
-    def ask(self, method: str, path: str, form=None, fields=()):
+    def ask(self, method: str, path: str, form: Optional[Mapping[str, object]] = None, fields: Iterable[str] = ()) -> Reply:
         """Returns the reply to a request as a browser sends it."""
         lines = [f"Cookie: {self.cookie}"] if self.cookie else []
         lines += [FORM, f"Origin: {self.front.origin}"] if form is not None and not any(it.startswith("Origin") for it in fields) else [FORM] if form is not None else []
@@ -48,18 +49,18 @@ class Visitor:
         self.form = token[1].decode() if token else self.form
         return came
 
-    def enter(self, number: int = 101):
+    def enter(self, number: int = 101) -> Reply:
         """Signs in, and looks at the page."""
         came = self.ask("POST", "/choices/enter", {"number": number, "token": TOKENS[number]})
         self.ask("GET", "/choices/")
         return came
 
-    def save(self, codes: str, fields=()):
+    def save(self, codes: str, fields: Iterable[str] = ()) -> Reply:
         """Saves a list."""
         return self.ask("POST", "/choices/list", {"form": self.form, "list": codes, "do": "save"}, fields)
 
 
-def is_lacking(tally, label: str, *programs: str) -> bool:
+def is_lacking(tally: Tally, label: str, *programs: str) -> bool:
     """Returns whether a program is missing, and says so."""
     lacking = [it for it in programs if not found(it)]
     if lacking:
@@ -67,7 +68,7 @@ def is_lacking(tally, label: str, *programs: str) -> bool:
     return bool(lacking)
 
 
-def front(tally) -> None:
+def front(tally: Tally) -> None:
     """Looks at what nginx lets through, keeps back and writes down."""
     if is_lacking(tally, "front", "nginx", "openssl"):
         return
@@ -93,7 +94,7 @@ def front(tally) -> None:
         tally.holds("/choices/enter" in logs, "requests are logged")
 
 
-def headers(tally, who: Visitor) -> None:
+def headers(tally: Tally, who: Visitor) -> None:
     """Looks at the security fields, and at what a browser may keep."""
     page = who.ask("GET", "/choices/")
     policy = page.fields.get("content-security-policy", "")
@@ -105,12 +106,12 @@ def headers(tally, who: Visitor) -> None:
         tally.same((came.status, came.fields.get("cache-control")), (200, "public, max-age=31536000, immutable"), "a file with a hash in its name")
 
 
-def ways(tally, room: str, nginx: Front) -> None:
+def ways(tally: Tally, room: str, nginx: Front) -> None:
     """Looks whether fill leaves nachodune.conf and the other pages as they are, and refuses a nachodune.conf that does not include its files."""
     before, call = text_of(f"{room}/conf/nachodune.conf"), f"{TOP}/deploy/choices/fill"
     ran([call, f"{room}/conf", f"CHOICES=unix:{room}/choices.sock"])
     tally.same(text_of(f"{room}/conf/nachodune.conf"), before, "fill leaves nachodune.conf as it is")
-    policy = [re.search("max-age=([0-9]+)", text_of(f"{room}/conf/{it}"))[1] for it in ("headers.conf", "choices-headers.conf")]
+    policy = [re.findall("max-age=([0-9]+)", text_of(f"{room}/conf/{it}"))[0] for it in ("headers.conf", "choices-headers.conf")]
     tally.same(policy[1], policy[0], "how long browsers keep to TLS")
     tally.holds("form-action 'none'" in nginx.ask("GET", "/candidate/").fields.get("content-security-policy", ""), "the candidate's page keeps its policy")
     os.makedirs(f"{room}/older")
@@ -120,10 +121,14 @@ def ways(tally, room: str, nginx: Front) -> None:
     tally.holds(came.returncode == 2 and "deploy/site" in came.stderr and os.listdir(f"{room}/older") == ["nachodune.conf"], "fill with an older nachodune.conf", f"{came}")
 
 
-def limits(tally, nginx: Front) -> None:
+def limits(tally: Tally, nginx: Front) -> None:
     """Looks at the limit on sign-ins of one address. nginx itself refuses most of them here, so that a slow machine reaches the limit too."""
-    guess, statuses, held = Visitor(nginx, CLERK_AT), [], b""
-    enter = lambda: guess.ask("POST", "/choices/enter", {"number": 101, "token": "guess000001"}).status
+    guess, held = Visitor(nginx, CLERK_AT), b""
+    statuses: list[int] = []
+
+    def enter() -> int:
+        return guess.ask("POST", "/choices/enter", {"number": 101, "token": "guess000001"}).status
+
     before = enter()
     with nginx.connected(CLERK_AT) as link:
         while len(statuses) < 900 and statuses[-1:] != [429]:
@@ -138,7 +143,7 @@ def limits(tally, nginx: Front) -> None:
 # ---- a browser
 
 
-def browser(tally) -> None:
+def browser(tally: Tally) -> None:
     """Makes a list in Chromium, with the page's script and without one."""
     if is_lacking(tally, "browser", "nginx", "openssl"):
         return
@@ -155,13 +160,13 @@ def browser(tally) -> None:
         tally.same(text_of(f"{room}/lists/choices.csv"), "candidate,programmes\n101,C,A\n102,B\n103,B,A\n", "the lists that were made in the browser")
 
 
-def press(it, selector: str) -> None:
+def press(it: chromium.Browser, selector: str) -> None:
     """Presses a button. The page may be another one before the call returns, and timers do not run without scripts."""
     with contextlib.suppress(RuntimeError):
         it.js(f"document.querySelector({selector!r}).click()")
 
 
-def waits(it, holds: str) -> None:
+def waits(it: chromium.Browser, holds: str) -> None:
     """Waits until an expression holds, also while the page becomes another one."""
     for _ in range(20):
         try:
@@ -172,7 +177,7 @@ def waits(it, holds: str) -> None:
     raise Wrong(f"the page does not come: {holds}")
 
 
-def visited(tally, it, nginx: Front, number: int, language: str, is_scripted: bool) -> None:
+def visited(tally: Tally, it: chromium.Browser, nginx: Front, number: int, language: str, is_scripted: bool) -> None:
     """Signs in, adds programmes, moves and removes one, saves, and signs out."""
     it.call("Emulation.setScriptExecutionDisabled", value=not is_scripted)
     label = "with a script" if is_scripted else "without a script"
@@ -200,7 +205,7 @@ def visited(tally, it, nginx: Front, number: int, language: str, is_scripted: bo
     tally.same(it.js("document.cookie"), "", f"no cookie is in reach of a script, {label}")
 
 
-def shots(it, name: str) -> None:
+def shots(it: chromium.Browser, name: str) -> None:
     """Keeps a picture if SHOTS names a folder."""
     if os.environ.get("SHOTS"):
         it.shot(f"{os.environ['SHOTS']}/{name}.png")

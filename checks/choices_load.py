@@ -1,6 +1,7 @@
 """Candidates who make their lists all at once, while the service is killed again and again. Every receipt must be in what the clerk gets."""
 import asyncio
 import csv
+import dataclasses
 import hashlib
 import os
 import random
@@ -9,7 +10,7 @@ import signal
 import subprocess
 import sys
 import time
-from typing import Iterator, Optional
+from typing import Any, Iterator, Optional, TypeVar
 from urllib.parse import urlencode
 
 from served import TOP, Wrong
@@ -18,9 +19,18 @@ CHOICES = f"{TOP}/deploy/choices/choices"
 PROGRAMMES = [f"P{it}" for it in range(400)]
 # one candidate in so many saves a second list
 TWICE = 8
+Own = TypeVar("Own", bound="Service")
 
 
-def bundle(count: int) -> tuple:
+@dataclasses.dataclass
+class Sent:
+    """A list that was sent, and its receipt once one came."""
+
+    codes: tuple[str, ...]
+    receipt: Optional[int] = None
+
+
+def bundle(count: int) -> tuple[str, dict[int, str]]:
     """Returns a bundle of so many candidates without lists, and the token of each."""
     tokens = {it: secrets.token_hex(16) for it in range(1, count + 1)}
     rows = ["office bundle 1", "[season]", "rounds,3", f"clerk,{secrets.token_hex(16)}", "[register]", "id,category,traits,token,m1,m2,m3,m4"]
@@ -32,15 +42,23 @@ def bundle(count: int) -> tuple:
 class Service:
     """The service over a store, at a socket in its folder. It may be killed and started again."""
 
-    def __init__(self, room: str, *words: str, **how) -> None:
-        self.room, self.words, self.how, self.child = room, words, how, None
+    def __init__(self, room: str, *words: str, **how: Any) -> None:
+        self.room, self.words, self.how = room, words, how
+        self.begun: Optional[subprocess.Popen[bytes]] = None
         self.socket = f"{room}/choices.sock"
 
-    def start(self) -> "Service":
+    @property
+    def child(self) -> "subprocess.Popen[bytes]":
+        """The service that was begun last."""
+        assert self.begun, "the service was not begun"
+        return self.begun
+
+    def start(self: Own) -> Own:
         """Starts the service, and waits until it serves."""
         call = [sys.executable, CHOICES, "serve", f"{self.room}/choices.db", "--socket", self.socket, "--papers", f"{self.room}/season", "--web", f"{self.room}/web", *self.words]
         self.log = open(f"{self.room}/service.log", "ab")
-        self.child = subprocess.Popen(call, stdout=subprocess.PIPE, stderr=self.log, **self.how)
+        self.begun = subprocess.Popen(call, stdout=subprocess.PIPE, stderr=self.log, **self.how)
+        assert self.child.stdout
         if self.child.stdout.readline() != b"choices: serving\n":
             raise Wrong(f"the service does not start: status {self.child.wait()}")
         return self
@@ -49,12 +67,13 @@ class Service:
         """Kills the service."""
         self.child.send_signal(by)
         self.child.wait()
+        assert self.child.stdout
         self.child.stdout.close()
         self.log.close()
 
     __enter__ = start
 
-    def __exit__(self, *_) -> None:
+    def __exit__(self, *_: object) -> None:
         if self.child.poll() is None:
             self.kill()
 
@@ -70,10 +89,10 @@ def called(*words: str, given: str = "", status: int = 0) -> str:
 class Link:
     """A connection of a client to the service."""
 
-    def __init__(self, reader, writer) -> None:
+    def __init__(self, reader: asyncio.StreamReader, writer: asyncio.StreamWriter) -> None:
         self.reader, self.writer = reader, writer
 
-    async def post(self, path: str, form: dict, cookie: str = "") -> tuple:
+    async def post(self, path: str, form: dict[str, object], cookie: str = "") -> tuple[int, dict[str, str], str]:
         """Sends a form, and returns status, fields and text of the reply."""
         body = urlencode(form).encode()
         head = f"POST {path} HTTP/1.1\r\nContent-Type: application/x-www-form-urlencoded\r\nContent-Length: {len(body)}\r\nCookie: {cookie}\r\n\r\n"
@@ -86,14 +105,14 @@ class Link:
 class Candidates:
     """All candidates, so many at a time, each with a list of their own; and what they were told."""
 
-    def __init__(self, socket: str, tokens: dict, seed: int) -> None:
+    def __init__(self, socket: str, tokens: dict[int, str], seed: int) -> None:
         self.socket, self.tokens, self.drawn = socket, tokens, random.Random(seed)
-        self.left: Iterator = iter(tokens)
+        self.left: Iterator[int] = iter(tokens)
         # of each candidate the lists that were sent, with the receipt of those that were told to be kept
-        self.sent: dict = {it: [] for it in tokens}
+        self.sent: dict[int, list[Sent]] = {it: [] for it in tokens}
         self.done, self.broken, self.slowest, self.is_over = 0, 0, 0.0, False
 
-    def lists(self, number: int) -> list:
+    def lists(self, number: int) -> list[tuple[str, ...]]:
         """Returns the lists that a candidate saves, one after another."""
         count = 1 if number % TWICE else 2
         return [tuple(self.drawn.sample(PROGRAMMES, self.drawn.randint(1, 40))) for _ in range(count)]
@@ -119,7 +138,7 @@ class Candidates:
                     await asyncio.sleep(0.2)
             self.done += 1
 
-    async def visit(self, link: Link, number: int, wanted: list) -> None:
+    async def visit(self, link: Link, number: int, wanted: list[tuple[str, ...]]) -> None:
         """Signs in, and saves each list that is wanted; what has a receipt is wanted no more."""
         status, fields, text = await link.post("/choices/enter", {"number": number, "token": self.tokens[number]})
         if status != 303:
@@ -127,7 +146,7 @@ class Candidates:
         cookie, form = fields["Set-Cookie"].split(";")[0], text.split()[-1]
         while wanted:
             began = time.monotonic()
-            sent = [wanted[0], None]
+            sent = Sent(wanted[0])
             self.sent[number].append(sent)
             status, fields, text = await link.post("/choices/list", {"form": form, "list": " ".join(wanted[0]), "do": "save"}, cookie)
             self.slowest = max(self.slowest, time.monotonic() - began)
@@ -136,18 +155,18 @@ class Candidates:
             _, receipt, _, _, digest = text.split()
             if digest != hashlib.sha256(",".join([str(number), *wanted[0]]).encode()).hexdigest()[:16]:
                 raise Wrong(f"receipt {receipt} of candidate {number} has another digest: {digest}")
-            sent[1] = int(receipt)
+            sent.receipt = int(receipt)
             wanted.pop(0)
 
 
-def rows_of(path: str) -> list:
+def rows_of(path: str) -> list[list[str]]:
     """Returns the rows of a file that the clerk gets, below the header."""
     csv.field_size_limit(1 << 24)
     with open(path, encoding="utf-8", newline="") as it:
         return [*csv.reader(it)][1:]
 
 
-def faults(folder: str, sent: dict) -> list:
+def faults(folder: str, sent: dict[int, list[Sent]]) -> list[str]:
     """Returns what in the clerk's files is not as the candidates were told."""
     kept = {int(row[0]): (int(row[1]), tuple(row[5].split())) for row in rows_of(f"{folder}/receipts.csv")}
     lists = {int(row[0]): tuple(row[1:]) for row in rows_of(f"{folder}/choices.csv")}
@@ -156,12 +175,12 @@ def faults(folder: str, sent: dict) -> list:
         if not attempts:
             # the candidate did not come within the time, and the sets below are compared too
             continue
-        for codes, receipt in attempts:
-            if receipt and kept.get(receipt) != (number, codes):
-                found.append(f"receipt {receipt} of candidate {number}: {codes[:3]} and not {kept.get(receipt)}")
+        for it in attempts:
+            if it.receipt and kept.get(it.receipt) != (number, it.codes):
+                found.append(f"receipt {it.receipt} of candidate {number}: {it.codes[:3]} and not {kept.get(it.receipt)}")
         # the list that counts is the last one that has a receipt, or one that was sent after it and whose reply did not come
-        last = max((at for at, (_, receipt) in enumerate(attempts) if receipt), default=0)
-        if lists.get(number) not in [codes for codes, _ in attempts[last:]]:
+        last = max((at for at, it in enumerate(attempts) if it.receipt), default=0)
+        if lists.get(number) not in [it.codes for it in attempts[last:]]:
             found.append(f"the list of candidate {number}: {str(lists.get(number))[:60]}")
     if set(lists) != {it for it in sent if sent[it]}:
         found.append("other candidates have a list than saved one")
@@ -197,8 +216,8 @@ def tried(room: str, count: int, kills: int, at_a_time: int, together: int, seco
         # the clerk closes while the service runs
         called("close", f"{room}/choices.db", f"{room}/lists")
     found = faults(f"{room}/lists", candidates.sent)
-    receipts = sum(bool(receipt) for it in candidates.sent.values() for _, receipt in it)
-    lost = sum(not receipt for it in candidates.sent.values() for _, receipt in it)
+    receipts = sum(bool(it.receipt) for sent in candidates.sent.values() for it in sent)
+    lost = sum(not it.receipt for sent in candidates.sent.values() for it in sent)
     if found:
         raise Wrong(f"{len(found)} faults, the first: {found[0]}")
     return (

@@ -11,7 +11,8 @@ import string
 import subprocess
 import sys
 import tempfile
-from typing import NamedTuple, Optional
+from deployed import Tally
+from typing import Any, Mapping, NamedTuple, Optional, Union
 from urllib.parse import urlencode
 
 from cases import ROOMS
@@ -57,7 +58,7 @@ class Reply(NamedTuple):
     """A reply: its status, its fields, and its text."""
 
     status: int
-    fields: dict
+    fields: dict[str, str]
     text: str
 
     def draft(self) -> str:
@@ -77,7 +78,7 @@ class Browser:
     def __init__(self, port: int) -> None:
         self.port, self.cookie, self.form = port, "", ""
 
-    def ask(self, method: str, path: str, form: Optional[dict] = None, fields: Optional[dict] = None) -> Reply:
+    def ask(self, method: str, path: str, form: Optional[Mapping[str, object]] = None, fields: Optional[dict[str, str]] = None) -> Reply:
         """Returns the reply to a request."""
         link = http.client.HTTPConnection("127.0.0.1", self.port, timeout=60)
         body = None if form is None else urlencode(form)
@@ -93,14 +94,14 @@ class Browser:
         self.form = found[1] if found else self.form
         return reply
 
-    def enter(self, number, token: str, **more) -> Reply:
+    def enter(self, number: Union[int, str], token: str, **more: str) -> Reply:
         """Signs in, and looks at the page."""
         reply = self.ask("POST", "/choices/enter", {"number": number, "token": token, **more})
         if reply.status == 303:
             self.ask("GET", reply.fields["location"])
         return reply
 
-    def send(self, word: str, **form) -> Reply:
+    def send(self, word: str, **form: object) -> Reply:
         """Sends a form of the page."""
         return self.ask("POST", f"/choices/{word}", {"form": self.form, **form})
 
@@ -112,7 +113,7 @@ class Browser:
 class PortService(Service):
     """The service at a port."""
 
-    def __init__(self, room: str, **how) -> None:
+    def __init__(self, room: str, **how: Any) -> None:
         self.port = free_port()
         super().__init__(room, "--port", str(self.port), **how)
 
@@ -128,17 +129,18 @@ def begun(room: str, numbers: bool = True) -> None:
 # ---- signing in
 
 
-def signing_in(tally, room: str, port: int) -> None:
+def signing_in(tally: Tally, room: str, port: int) -> None:
     """Looks at who is let in."""
     who = Browser(port)
-    for number, token, wanted, label in (
+    tries: tuple[tuple[Union[int, str], str, int, str], ...] = (
         (101, TOKENS[101], 403, "the office's number where the board has one of its own"),
         ("2603100000101", TOKENS[102], 403, "another one's token"),
         ("2603100000999", TOKENS[101], 403, "an unknown number"),
         ("", "", 403, "nothing"),
         ("2603100000101", f" {TOKENS[101][:6]}- {TOKENS[101][6:]} ", 303, "a token with blanks"),
         (104, TOKENS[104], 303, "a candidate without a number of the board"),
-    ):
+    )
+    for number, token, wanted, label in tries:
         tally.same(Browser(port).enter(number, token).status, wanted, f"sign in: {label}")
     came = who.enter("2603100000101", TOKENS[101])
     tally.holds(all(it in came.fields["set-cookie"] for it in ("__Host-", "Secure", "HttpOnly", "SameSite=Strict", "Path=/")), "the cookie", came.fields["set-cookie"])
@@ -151,12 +153,15 @@ def signing_in(tally, room: str, port: int) -> None:
     tally.holds('name="token"' in Browser(port).ask("GET", "/choices/", fields={"Cookie": kept}).text, "a cookie from before the sign-out signs in nobody")
 
 
-def own_list(tally, room: str, port: int) -> None:
+def own_list(tally: Tally, room: str, port: int) -> None:
     """Looks at what a candidate may list, and at drafts and receipts."""
     first, second = Browser(port), Browser(port)
     first.enter("2603100000101", TOKENS[101])
     second.enter("2603100000102", TOKENS[102])
-    offered = lambda who: set(re.findall(r'value="add ([^"]+)"', who.ask("GET", "/choices/").text))
+
+    def offered(who: Browser) -> set[str]:
+        return set(re.findall(r'value="add ([^"]+)"', who.ask("GET", "/choices/").text))
+
     tally.same(offered(first), {"A", "B", "C", "N"}, "who has places in lists 1 and 2 is offered all")
     tally.same(offered(second), {"A", "B"}, "who has no place in list 2 is not offered C, and not N from another state")
     for codes, status, label in (("A", 303, "one"), ("", 303, "an empty list"), ("C", 409, "a programme without a place"), ("A B A", 409, "one twice"), ("A N-HS", 409, "a unit"), ("X", 409, "an unknown code")):
@@ -176,11 +181,11 @@ def own_list(tally, room: str, port: int) -> None:
     tally.same(set(re.findall(r'value="add ([^"]+)"', came.text)), {"B", "C"}, "programmes of an institute are found")
 
 
-def locking(tally, room: str, port: int) -> None:
+def locking(tally: Tally, room: str, port: int) -> None:
     """Looks at locking, at unlocking by the clerk, and at reports."""
     who = Browser(port)
     who.enter("2603100000101", TOKENS[101])
-    receipt = who.save("A B").receipt()
+    receipt = who.save("A B").receipt() or 0
     tally.same(who.send("lock", receipt=receipt).status, 409, "locking without the box")
     tally.same(who.send("lock", receipt=receipt - 1, sure="yes").status, 409, "locking an older list")
     tally.same(who.send("lock", receipt=receipt, sure="yes").status, 303, "locking")
@@ -196,7 +201,7 @@ def locking(tally, room: str, port: int) -> None:
     tally.holds("&lt;b&gt;not" in who.ask("GET", "/choices/").text, "a report is shown as text")
 
 
-def foreign(tally, room: str, port: int) -> None:
+def foreign(tally: Tally, room: str, port: int) -> None:
     """Looks at what nobody may send."""
     who, other = Browser(port), Browser(port)
     who.enter("2603100000101", TOKENS[101])
@@ -216,7 +221,7 @@ def foreign(tally, room: str, port: int) -> None:
     malformed(tally, who)
 
 
-def malformed(tally, who: Browser) -> None:
+def malformed(tally: Tally, who: Browser) -> None:
     """Looks at requests that are none."""
     big = {"form": who.form, "list": "A" * 70_000}
     tally.same(who.ask("POST", "/choices/list", big).status, 413, "a body above the limit")
@@ -228,7 +233,7 @@ def malformed(tally, who: Browser) -> None:
         tally.same(who.ask(method, path).status, status, f"{method} {path}")
 
 
-def papers(tally, room: str, port: int) -> None:
+def papers(tally: Tally, room: str, port: int) -> None:
     """Looks at names and the mock round."""
     who = Browser(port)
     who.enter("2603100000101", TOKENS[101])
@@ -249,7 +254,7 @@ def papers(tally, room: str, port: int) -> None:
 # ---- the clerk
 
 
-def closing(tally, room: str, port: int) -> None:
+def closing(tally: Tally, room: str, port: int) -> None:
     """Looks at what the clerk gets."""
     who, folder = Browser(port), f"{room}/lists"
     who.enter("2603100000101", TOKENS[101])
@@ -261,7 +266,11 @@ def closing(tally, room: str, port: int) -> None:
     tally.holds("20-06-2090 17:00 IST" in who.ask("GET", "/choices/").text, "the announced hour")
     called("close", f"{room}/choices.db", folder)
     tally.same((who.save("A").status, who.ask("GET", "/choices/").draft()), (409, ""), "nothing is saved after the clerk closed")
-    read = lambda name: open(f"{folder}/{name}", encoding="utf-8").read()
+
+    def read(name: str) -> str:
+        with open(f"{folder}/{name}", encoding="utf-8") as it:
+            return it.read()
+
     wide = "candidate,programmes\n2603100000101,B,N\n2603100000103,B,A\n"
     tally.same(read("choices.csv"), wide, "choices.csv")
     tally.same(read("choices.txt"), "[choices]\n" + wide.replace("2603100000", ""), "choices.txt")
@@ -275,7 +284,7 @@ def closing(tally, room: str, port: int) -> None:
 PARTS = (signing_in, own_list, foreign, locking, papers, closing)
 
 
-def secrets_kept(tally, room: str) -> None:
+def secrets_kept(tally: Tally, room: str) -> None:
     """Looks for tokens where none may be, and at how the store syncs."""
     held = b"".join(open(it, "rb").read() for it in glob.glob(f"{room}/choices.db*") + glob.glob(f"{room}/service.log") + glob.glob(f"{room}/lists/*"))
     tally.same([it for it in TOKENS.values() if it.encode() in held], [], "no token is in the store, the log or the clerk's files")
@@ -285,7 +294,7 @@ def secrets_kept(tally, room: str) -> None:
     tally.same((sync, log), (2, "wal"), "each transaction is synced")
 
 
-def rules(tally) -> None:
+def rules(tally: Tally) -> None:
     """Tries all parts over one service, one after another."""
     with tempfile.TemporaryDirectory(prefix="choices-", dir=ROOMS) as room:
         begun(room)
@@ -295,7 +304,7 @@ def rules(tally) -> None:
         secrets_kept(tally, room)
 
 
-def full_disk(tally) -> None:
+def full_disk(tally: Tally) -> None:
     """Looks at a service whose disk takes no more: it gives no receipt, and keeps what it gave."""
     with tempfile.TemporaryDirectory(prefix="choices-", dir=ROOMS) as room:
         begun(room, numbers=False)
@@ -316,7 +325,7 @@ def full_disk(tally) -> None:
         tally.same(rows, kept, "all that had a receipt is there, and nothing else")
 
 
-def beginning(tally) -> None:
+def beginning(tally: Tally) -> None:
     """Looks at inputs of `begin` that are none, and at a store that is damaged."""
     with tempfile.TemporaryDirectory(prefix="choices-", dir=ROOMS) as room:
         path = f"{room}/choices.db"
@@ -330,9 +339,9 @@ def beginning(tally) -> None:
         tally.same(called("state", f"{room}/copy.db"), called("state", path), "a copy")
         called("copy", path, f"{room}/copy.db", status=1)
         most(tally, store.Store(f"{room}/copy.db"))
-        for given in (b"", b"no store", b"SQLite format 3\0" + bytes(4080)):
+        for data in (b"", b"no store", b"SQLite format 3\0" + bytes(4080)):
             with open(f"{room}/other.db", "wb") as it:
-                it.write(given)
+                it.write(data)
             tally.holds("is no store of lists" in called("serve", f"{room}/other.db", status=3), "a file that is no store is not served, and a person has to look")
         base = sqlite3.connect(path)
         base.execute("UPDATE entry SET codes = 'A B'")
@@ -341,7 +350,7 @@ def beginning(tally) -> None:
         tally.holds("damaged" in called("write", path, f"{room}/lists", status=3), "a list that is not that of its receipt is reported")
 
 
-def most(tally, kept: store.Store) -> None:
+def most(tally: Tally, kept: store.Store) -> None:
     """Looks at how often one candidate may save and report, and whether a refusal among others leaves these."""
     came = kept.all_together([("save", (101, ("A", "B")[at % 2 :][:1])) for at in range(1_001)] + [("save", (102, ("A",)))])
     tally.same([it.receipt for it in came[:1_000]], [*range(2, 1_002)], "a thousand lists of one candidate")
@@ -350,12 +359,12 @@ def most(tally, kept: store.Store) -> None:
     tally.same((came[19], str(came[20])), (20, "tooManyReports"), "twenty reports of one candidate, and one more")
 
 
-def places_of(text) -> set:
+def places_of(text: object) -> set[str]:
     """Returns the names of the values of a sentence, or the names of several words."""
-    return set(text) if isinstance(text, dict) else {field for _, field, _, _ in string.Formatter().parse(text) if field}
+    return set(text) if isinstance(text, dict) else {field for _, field, _, _ in string.Formatter().parse(str(text)) if field}
 
 
-def words_agree(tally) -> None:
+def words_agree(tally: Tally) -> None:
     """Looks whether both languages have the same sentences with the same places for values."""
     both = []
     for language in ("en", "hi"):
@@ -366,7 +375,7 @@ def words_agree(tally) -> None:
     tally.same([it for it in both[0] if not re.search(rf"[\"']{it}[\"']", code) and it != "language"], [], "words that nothing uses")
 
 
-def chain(tally) -> None:
+def chain(tally: Tally) -> None:
     """Looks whether tools/season takes choices.csv, and makes the section of choices.txt of it."""
     with tempfile.TemporaryDirectory(prefix="choices-", dir=ROOMS) as room:
         sheets = {

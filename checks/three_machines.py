@@ -5,6 +5,7 @@ import os
 import signal
 import struct
 import subprocess
+from typing import Any, Optional, Sequence
 
 from front import DEPLOY, HOST, SYSTEM, text_of, until
 
@@ -45,7 +46,9 @@ class Machine:
 
     def __init__(self, number: int, room: str, megabytes: int):
         self.number, self.address, self.room = number, f"{NETWORK}.0.{number}", f"{room}/machine{number}"
-        self.outer, self.init, self.children = None, None, []
+        self.outer: Optional[subprocess.Popen[bytes]] = None
+        self.init: Optional[int] = None
+        self.children: list[subprocess.Popen[Any]] = []
         for it in ("glusterd", "logs", "disk", "store", "front", "ssl"):
             os.makedirs(f"{self.room}/{it}")
         said(["truncate", "-s", f"{megabytes}M", f"{self.room}/image"])
@@ -55,7 +58,7 @@ class Machine:
 
     # ---- its life
 
-    def start(self, others: "list[Machine]" = ()) -> "Machine":
+    def start(self, others: "Sequence[Machine]" = ()) -> "Machine":
         """Gives the machine its namespaces, its network and its GlusterFS; it does not see the disks of the others."""
         ready = f"{self.room}/ready"
         begin = [
@@ -74,14 +77,14 @@ class Machine:
         if os.path.exists(ready):
             os.remove(ready)
         words = ["setpriv", "--pdeathsig", "KILL", "unshare", "--net", "--mount", "--pid", "--ipc", "--uts", "--fork", "--mount-proc", "--kill-child", "sh", "-c", " && ".join(begin)]
-        self.outer = subprocess.Popen(words, env=SYSTEM, stderr=subprocess.DEVNULL)
-        until(lambda: os.path.exists(ready) or self.outer.poll() is not None, f"machine {self.number}")
-        with open(f"/proc/{self.outer.pid}/task/{self.outer.pid}/children", encoding="ascii") as it:
-            self.init = int(it.read().split()[0])
+        outer = self.outer = subprocess.Popen(words, env=SYSTEM, stderr=subprocess.DEVNULL)
+        until(lambda: os.path.exists(ready) or outer.poll() is not None, f"machine {self.number}")
+        with open(f"/proc/{outer.pid}/task/{outer.pid}/children", encoding="ascii") as children:
+            self.init = int(children.read().split()[0])
         said(["ip", "link", "add", f"v{self.number}", "type", "veth", "peer", "name", "eth0", "netns", str(self.init)])
         said(["ip", "link", "set", f"v{self.number}", "master", "br0", "up"])
-        for it in (["addr", "add", f"{self.address}/16", "dev", "eth0"], ["link", "set", "eth0", "up"], ["link", "set", "lo", "up"]):
-            self.said("ip", *it)
+        for link in (["addr", "add", f"{self.address}/16", "dev", "eth0"], ["link", "set", "eth0", "up"], ["link", "set", "lo", "up"]):
+            self.said("ip", *link)
         self.said("glusterd", "--log-level", "WARNING")
         return self
 
@@ -89,12 +92,13 @@ class Machine:
         """Returns a command that runs these words on the machine."""
         return ["nsenter", "-n", "-m", "-p", "-i", "-u", "-t", str(self.init), *words]
 
-    def said(self, *words: str, **how) -> str:
+    def said(self, *words: str, **how: Any) -> str:
         return said(self.words(*words), **how)
 
-    def popen(self, *words: str, **how) -> subprocess.Popen:
-        self.children.append(subprocess.Popen(self.words(*words), env=SYSTEM, **how))
-        return self.children[-1]
+    def popen(self, *words: str, **how: Any) -> subprocess.Popen[Any]:
+        child: subprocess.Popen[Any] = subprocess.Popen(self.words(*words), env=SYSTEM, **how)
+        self.children.append(child)
+        return child
 
     def is_cut_off(self, cut: bool) -> None:
         """Takes the machine's link down, or up again; nothing on the machine notices but by silence."""
@@ -105,6 +109,7 @@ class Machine:
         if self.init:
             self.is_cut_off(True)
             os.kill(self.init, signal.SIGKILL)
+            assert self.outer
             self.outer.wait()
             # the link goes with the machine, but not at once
             subprocess.run(["ip", "link", "del", f"v{self.number}"], stderr=subprocess.DEVNULL, check=False)
@@ -133,8 +138,8 @@ class Machine:
 
     def mount(self) -> None:
         """Mounts the volume with the options of the unit."""
-        with open(f"{REPLICATED}/var-lib-nachodune.mount", encoding="utf-8") as it:
-            options = next(line.partition("=")[2].strip() for line in it if line.startswith("Options="))
+        with open(f"{REPLICATED}/var-lib-nachodune.mount", encoding="utf-8") as unit:
+            options = next(line.partition("=")[2].strip() for line in unit if line.startswith("Options="))
         options = ",".join(it for it in options.split(",") if it != "_netdev")
         self.said("mount", "-t", "glusterfs", "-o", options, f"localhost:/{VOLUME}", self.store)
 
@@ -163,8 +168,8 @@ class Machine:
             said(["sed", "-i", f"s|/etc/nginx/nachodune-either|{either}|", f"{either}/{name}"])
         values = {"HOST": HOST, "TLS": f"{self.address}:443", "PLAIN": f"{self.address}:80", "UPSTREAM": f"unix:{conf}/either.sock", "CERT": f"{room}/cert.pem",
                   "KEY": f"{room}/key.pem", "CLERKS": f"{NETWORK}.0.254", "WEB": f"{room}/web", "PAPERS": f"{conf}/season", "CACHE": f"{conf}/temp/texts", "LOG": conf}
-        for it in ("season", "temp", "logs"):
-            os.makedirs(f"{conf}/{it}", exist_ok=True)
+        for folder in ("season", "temp", "logs"):
+            os.makedirs(f"{conf}/{folder}", exist_ok=True)
         said([f"{DEPLOY}/fill", f"{conf}/conf", *(f"{name}={value}" for name, value in values.items())])
         with open(f"{DEPLOY}/alone.conf", encoding="utf-8") as it, open(f"{conf}/nginx.conf", "w", encoding="utf-8") as to:
             text = it.read().replace("@ROOM@", conf)
@@ -186,8 +191,8 @@ class Machines:
     """Three machines with a volume, behind a bridge with the clients."""
 
     def __init__(self, room: str, megabytes: int = 400):
-        for it in (["link", "set", "lo", "up"], ["link", "add", "br0", "type", "bridge"], ["addr", "add", f"{NETWORK}.0.254/16", "dev", "br0"], ["link", "set", "br0", "up"]):
-            said(["ip", *it])
+        for words in (["link", "set", "lo", "up"], ["link", "add", "br0", "type", "bridge"], ["addr", "add", f"{NETWORK}.0.254/16", "dev", "br0"], ["link", "set", "br0", "up"]):
+            said(["ip", *words])
         self.all = [Machine(number, room, megabytes) for number in (1, 2, 3)]
         self.room = room
         certificates(room, self.all)
