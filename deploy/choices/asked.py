@@ -22,8 +22,8 @@ class Request(NamedTuple):
     method: str
     path: str
     query: str
-    fields: dict
-    form: dict
+    fields: dict[str, str]
+    form: dict[str, str]
 
 
 class Reply(NamedTuple):
@@ -32,7 +32,7 @@ class Reply(NamedTuple):
     status: int
     text: bytes
     kind: str = "text/html; charset=utf-8"
-    fields: tuple = ()
+    fields: tuple[tuple[str, str], ...] = ()
 
     def encoded(self, closes: bool, bare: bool) -> bytes:
         """Returns the bytes of the reply; a reply to HEAD has no text."""
@@ -51,13 +51,13 @@ def plain(status: int, text: str) -> Reply:
     return Reply(status, f"{text}\n".encode(), "text/plain; charset=utf-8", (("Cache-Control", "no-store"),))
 
 
-def head_of(head: bytes) -> tuple:
+def head_of(head: bytes) -> tuple[str, str, bool, dict[str, str]]:
     """Returns the method, the path with its query, whether the connection may stay, and the fields of a head."""
     first, *lines = head[:-4].split(b"\r\n")
     asked = FIRST.fullmatch(first)
     if not asked:
         raise Malformed(400)
-    fields: dict = {}
+    fields: dict[str, str] = {}
     for line in lines:
         name, colon, value = line.partition(b":")
         key = name.decode("latin-1").lower()
@@ -70,7 +70,7 @@ def head_of(head: bytes) -> tuple:
     return asked[1].decode(), asked[2].decode(), stays, fields
 
 
-def form_of(fields: dict, body: bytes) -> dict:
+def form_of(fields: dict[str, str], body: bytes) -> dict[str, str]:
     """Returns the fields of a form, each once."""
     if not body:
         return {}
@@ -82,7 +82,7 @@ def form_of(fields: dict, body: bytes) -> dict:
         raise Malformed(400) from None
 
 
-async def next_request(reader: asyncio.StreamReader) -> Optional[tuple]:
+async def next_request(reader: asyncio.StreamReader) -> Optional[tuple[Request, bool]]:
     """Returns the next request of a connection and whether the connection may stay, or None if it ended."""
     try:
         head = await reader.readuntil(b"\r\n\r\n")
@@ -111,7 +111,8 @@ class Server:
 
     def __init__(self, answer: Callable[[Request], Awaitable[Reply]]) -> None:
         self.answer = answer
-        self.links: dict = {}
+        # when something was answered last on each connection
+        self.links: dict[asyncio.StreamWriter, float] = {}
 
     async def sweep(self) -> None:
         """Ends connections on which nothing was answered for a while, again and again."""

@@ -5,9 +5,10 @@ import hashlib
 import html
 import json
 import os
-from typing import NamedTuple, Optional
+from typing import Any, NamedTuple, Optional
 
 from papers_read import Papers
+from season_file import Programme
 from store import MOST_LISTED, Entry, Person, Store
 
 HERE = os.path.dirname(os.path.realpath(__file__))
@@ -33,7 +34,7 @@ class Assets:
     """The sheet and the script, each under a name that has a hash of its content, and the sheet of the candidate's page if it is built."""
 
     def __init__(self, web: str) -> None:
-        self.files: dict = {}
+        self.files: dict[str, tuple[bytes, str]] = {}
         self.sheet = self.named("choices.css", "text/css; charset=utf-8")
         self.script = self.named("choices.js", "text/javascript; charset=utf-8")
         built = sorted(glob.glob(f"{web}/assets/office-*.css"))
@@ -53,7 +54,7 @@ class Said(NamedTuple):
 
     is_good: bool
     word: str
-    values: dict = {}
+    values: dict[str, Any] = {}
 
 
 class View(NamedTuple):
@@ -61,7 +62,7 @@ class View(NamedTuple):
 
     person: Person
     token: str
-    draft: tuple
+    draft: tuple[str, ...]
     find: str = ""
     said: Optional[Said] = None
 
@@ -71,12 +72,12 @@ class Pages:
 
     def __init__(self, language: str, assets: Assets) -> None:
         self.language, self.base, self.assets = language, LANGUAGES[language], assets
-        self.words = json.loads(read(f"words.{language}.json"))
+        self.words: dict[str, Any] = json.loads(read(f"words.{language}.json"))
         self.others = [(code, base, json.loads(read(f"words.{code}.json"))["language"]) for code, base in LANGUAGES.items() if code != language]
 
-    def w(self, name: str, **values) -> str:
+    def w(self, name: str, **values: object) -> str:
         """Returns a sentence, escaped."""
-        return html.escape(self.words[name].format(**values))
+        return html.escape(str(self.words[name]).format(**values))
 
     # ---- the frame
 
@@ -93,7 +94,7 @@ class Pages:
             f'<main id="main" tabindex="-1">\n<h1>{self.w("title")}</h1>\n{told}{body}</main>\n<footer><p>{self.w("footer")}</p></footer>\n</body>\n</html>\n'
         ).encode()
 
-    def sign_in(self, said: Optional[Said] = None, number: str = "", draft: tuple = ()) -> bytes:
+    def sign_in(self, said: Optional[Said] = None, number: str = "", draft: tuple[str, ...] = ()) -> bytes:
         """Returns the page with the sign-in. A list that was not saved goes along, and is there again after it."""
         kept = f'<input type="hidden" name="list" value="{html.escape(" ".join(draft))}">' if draft else ""
         return self.whole(
@@ -174,7 +175,7 @@ class Pages:
         made = "".join(f'<button class="small" name="do" value="{it} {coded}" aria-label="{label}">{self.w(it)}</button> ' for it, label in labels.items())
         return f'<li data-code="{coded}"><span>{html.escape(name)}</span> <span class="buttons">{made}</span></li>'
 
-    def offered(self, store: Store, papers: Papers, view: View, open_to: dict) -> str:
+    def offered(self, store: Store, papers: Papers, view: View, open_to: dict[str, Programme]) -> str:
         """Returns the programmes that may be added, as far as they were searched, and a field for codes."""
         drafted, sought = set(view.draft), view.find.lower().split()
         found = [code for code in open_to if code not in drafted and all(it in self.programme(store, papers, code).lower() for it in sought)]
@@ -200,7 +201,7 @@ class Pages:
             f'<p><button class="grave">{self.w("lock")}</button></p></form></section>\n'
         )
 
-    def receipts(self, entries: list) -> str:
+    def receipts(self, entries: list[Entry]) -> str:
         """Returns the table of receipts, the newest first."""
         if not entries:
             return ""

@@ -14,7 +14,8 @@ class Papers:
 
     def __init__(self, folder: str) -> None:
         self.folder = folder
-        self.kept: dict = {}
+        # of each file when it was looked at, its time, size and number then, and what it has
+        self.kept: dict[str, tuple[float, Optional[tuple[int, int, int]], Any]] = {}
 
     def read(self, name: str, reader: Callable[[str], Any], nothing: Any) -> Any:
         """Returns what a file has, or nothing if it is not there or is no such file."""
@@ -43,11 +44,11 @@ class Papers:
         """Returns whether a mock round is published."""
         return os.path.isfile(f"{self.folder}/mock-round.txt")
 
-    def mock_seat(self, number: int) -> Optional[tuple]:
+    def mock_seat(self, number: int) -> Optional[tuple[str, str]]:
         """Returns the programme and step of a candidate in the mock round."""
-        seats = self.read("mock-round.txt", lambda text: {int(who): (code, step) for who, code, step in SEAT.findall(text)}, {})
+        seats: dict[int, tuple[str, str]] = self.read("mock-round.txt", lambda text: {int(who): (code, step) for who, code, step in SEAT.findall(text)}, {})
         return seats.get(number)
 
-    def mock_files(self) -> list:
+    def mock_files(self) -> list[tuple[str, str]]:
         """Returns the papers of the mock round that are there, each with the name of its sentence."""
         return [it for it in MOCK if os.path.isfile(f"{self.folder}/{it[0]}")]

@@ -24,9 +24,9 @@ class Candidate(NamedTuple):
     category: str
     traits: str
     token: str
-    places: tuple
+    places: tuple[str, ...]
     state: str
-    codes: tuple
+    codes: tuple[str, ...]
 
 
 class Programme(NamedTuple):
@@ -50,13 +50,13 @@ class Programme(NamedTuple):
 class Season(NamedTuple):
     """The candidates and programmes of a season."""
 
-    candidates: list
-    programmes: list
+    candidates: list[Candidate]
+    programmes: list[Programme]
 
 
-def sections(text: str) -> dict:
+def sections(text: str) -> dict[str, list[list[str]]]:
     """Returns the rows of each section by its name, without empty rows."""
-    found: dict = {}
+    found: dict[str, list[list[str]]] = {}
     for part in re.split(r"^(?=\[)", text.removeprefix(MARK), flags=re.M)[1:]:
         title, _, body = part.partition("\n")
         rows = csv.reader(io.StringIO(body.removeprefix(MARK), newline=""))
@@ -64,25 +64,25 @@ def sections(text: str) -> dict:
     return found
 
 
-def matrix_of(rows: list, homes: dict) -> list:
+def matrix_of(rows: list[list[str]], homes: dict[str, str]) -> list[Programme]:
     """Returns the programmes of a seat matrix, in the order in which they first appear; both units of a divided programme are one."""
-    found: dict = {}
+    found: dict[str, tuple[str, int]] = {}
     for row in rows[1:]:
         if len(row) < 5 or not CODE.fullmatch(row[0]) or row[2] not in ("1", "2", "3", "4"):
             raise Wrong(f"matrix: the row `{','.join(row)[:60]}` is none of a seat matrix")
         found.setdefault(row[0], (row[1], int(row[2])))
-    programmes: dict = {}
+    programmes: dict[str, Programme] = {}
     for code, (institute, merit) in found.items():
         whole = code[:-3] if code[-3:] in ("-HS", "-OS") and code[:-3] in homes else code
         if whole == code:
             programmes[code] = Programme(code, institute, merit, "", merit)
             continue
         before = programmes.get(whole, Programme(whole, institute, merit, homes[whole], merit))
-        programmes[whole] = before._replace(**{"merit" if code.endswith("-HS") else "merit_of_others": merit})
+        programmes[whole] = before._replace(merit=merit) if code.endswith("-HS") else before._replace(merit_of_others=merit)
     return list(programmes.values())
 
 
-def candidate_of(row: list, states: dict, lists: dict) -> Candidate:
+def candidate_of(row: list[str], states: dict[str, str], lists: dict[str, tuple[str, ...]]) -> Candidate:
     """Returns the candidate of a row of the register."""
     number, category, traits, token, *places = [*row, *[""] * 8][: max(8, len(row))]
     is_row = NUMBER.fullmatch(number) and TOKEN.fullmatch(token) and len(places) == 4 and all(PLACE.fullmatch(it) for it in places)
@@ -106,7 +106,7 @@ def season_of(text: str) -> Season:
     return Season([candidate_of(row, states, lists) for row in found["register"][1:]], matrix_of(found["matrix"], homes))
 
 
-def board_numbers(text: str) -> dict:
+def board_numbers(text: str) -> dict[int, tuple[str, str]]:
     """Returns the board's own number and the name of each candidate, by the office's number, as a file of tokens has them."""
     header, *rows = [row for row in csv.reader(io.StringIO(text.removeprefix(MARK), newline="")) if any(row)] or [[]]
     names = [it.strip().lower() for it in header]
@@ -115,5 +115,8 @@ def board_numbers(text: str) -> dict:
     name = names.index("name") if "name" in names else None
     if key is None:
         raise Wrong("the file of tokens has no column `candidate`: save it as CSV UTF-8 with commas in the spreadsheet program")
-    field = lambda row, at: row[at].strip() if at is not None and at < len(row) else ""
+
+    def field(row: list[str], at: Optional[int]) -> str:
+        return row[at].strip() if at is not None and at < len(row) else ""
+
     return {int(row[key]): (field(row, own), field(row, name)) for row in rows if NUMBER.fullmatch(field(row, key))}

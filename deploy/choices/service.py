@@ -3,7 +3,7 @@ import asyncio
 import os
 import re
 import sys
-from typing import Optional
+from typing import Any, Optional
 
 import visits
 from asked import MOST_BODY, Reply, Request, Server, plain
@@ -16,14 +16,17 @@ from writer import NotKept, Writer
 NO_STORE = ("Cache-Control", "no-store")
 STAYS = ("Cache-Control", "public, max-age=31536000, immutable")
 MOVES = {"up": -1, "down": 1}
+# a list or a draft of one, and who asks: a visit with its candidate
+Codes = tuple[str, ...]
+Who = tuple[Visit, Person]
 
 
-def codes_of(text: str) -> tuple:
+def codes_of(text: str) -> Codes:
     """Returns the codes of a text, with anything but their own signs between them."""
     return tuple(re.findall(r"[A-Za-z0-9-]+", text)[: MOST_LISTED + 1])
 
 
-def changed(draft: tuple, do: str) -> tuple:
+def changed(draft: Codes, do: str) -> Codes:
     """Returns a draft after one of its buttons, such as `up CSE`."""
     how, _, code = do.partition(" ")
     if how == "add" and code not in draft:
@@ -74,7 +77,7 @@ class Service:
 
     # ---- who asks
 
-    def visitor(self, asked: Request) -> Optional[tuple]:
+    def visitor(self, asked: Request) -> Optional[Who]:
         """Returns the visit of a request with its candidate, or None."""
         visit = visits.visit_of(self.store.key, asked.fields)
         if not visit or self.store.is_signed_out(visit.name):
@@ -82,7 +85,7 @@ class Service:
         person = self.store.person(visit.number)
         return (visit, person) if person else None
 
-    def shown(self, pages: Pages, who: tuple, status: int = 200, said: Optional[Said] = None, draft: Optional[tuple] = None, find: str = "") -> Reply:
+    def shown(self, pages: Pages, who: Who, status: int = 200, said: Optional[Said] = None, draft: Optional[Codes] = None, find: str = "") -> Reply:
         """Returns the page of a candidate, with the saved list unless there is a draft."""
         visit, person = who
         last = self.store.last(person.number)
@@ -148,18 +151,19 @@ class Service:
         draft = codes_of(asked.form.get("codes", "")) if do == "take" else changed(draft, do)
         return self.shown(pages, who, draft=draft, find=asked.form.get("find", "")[:60])
 
-    def wrong(self, person: Person, codes: tuple) -> Optional[Said]:
+    def wrong(self, person: Person, codes: Codes) -> Optional[Said]:
         """Returns what is wrong with a list, or None."""
         if len(codes) > MOST_LISTED:
             return Said(False, "tooLong", {"most": MOST_LISTED})
-        open_to, seen = self.store.open_to(person), set()
+        open_to = self.store.open_to(person)
+        seen: set[str] = set()
         for code in codes:
             if code not in open_to or code in seen:
                 return Said(False, "twice" if code in seen else "unknown", {"code": code})
             seen.add(code)
         return None
 
-    async def save(self, pages: Pages, who: tuple, codes: tuple) -> Reply:
+    async def save(self, pages: Pages, who: Who, codes: Codes) -> Reply:
         """Saves a list. The reply has its receipt, and comes when the list is on the disk."""
         said = self.wrong(who[1], codes)
         if said:
@@ -177,7 +181,7 @@ class Service:
             return self.shown(pages, who, 409, Said(False, "lockUnsure"))
         return await self.kept(pages, who, None, "notKeptOther", "lock", who[1].number, int(receipt))
 
-    async def kept(self, pages: Pages, who: tuple, draft: Optional[tuple], fails: str, *job) -> Reply:
+    async def kept(self, pages: Pages, who: Who, draft: Optional[Codes], fails: str, *job: Any) -> Reply:
         """Does what gives a receipt, and returns it, or the page that says why there is none."""
         try:
             came = await self.writer.done(*job)
@@ -187,7 +191,7 @@ class Service:
             return self.shown(pages, who, 503, Said(False, fails), draft)
         return self.seen(pages, who, f"receipt={came.receipt}", receipt_line(came))
 
-    def seen(self, pages: Pages, who: tuple, query: str, line: str) -> Reply:
+    def seen(self, pages: Pages, who: Who, query: str, line: str) -> Reply:
         """Sends a browser on to the page, so that loading it again sends nothing, and tells a program the receipt in one line."""
         fields = (("Location", f"{pages.base}?{query}"), visits.cookie(self.store.key, who[0]), NO_STORE)
         return Reply(303, f"{line}\n".encode(), "text/plain", fields)

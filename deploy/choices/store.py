@@ -5,7 +5,7 @@ import os
 import secrets
 import sqlite3
 import time
-from typing import Iterable, NamedTuple, Optional
+from typing import Any, Iterable, NamedTuple, Optional, Sequence
 
 from season_file import Programme, Season
 
@@ -38,7 +38,7 @@ class Entry(NamedTuple):
     candidate: int
     at: int
     kind: str
-    codes: tuple
+    codes: tuple[str, ...]
     digest: str
 
 
@@ -50,7 +50,7 @@ class Person(NamedTuple):
     name: str
     category: str
     traits: str
-    places: tuple
+    places: tuple[str, ...]
     state: str
 
 
@@ -77,7 +77,7 @@ def opened(path: str) -> sqlite3.Connection:
     return base
 
 
-def begin(path: str, season: Season, boards: dict) -> None:
+def begin(path: str, season: Season, boards: dict[int, tuple[str, str]]) -> None:
     """Makes the store of a season, whole or not at all; the tokens are in it as hashes only."""
     part = f"{path}.part"
     for end in ("", "-wal", "-shm", "-journal"):
@@ -98,8 +98,8 @@ def begin(path: str, season: Season, boards: dict) -> None:
             base.execute("INSERT INTO entry VALUES(NULL, ?, ?, 'list', ?, ?)", (it.number, at, " ".join(it.codes), digest_of(row_of(board or str(it.number), it.codes))))
     base.execute("COMMIT")
     base.close()
-    with open(part, "rb") as it:
-        os.fsync(it.fileno())
+    with open(part, "rb") as made:
+        os.fsync(made.fileno())
     os.link(part, path)
     os.remove(part)
 
@@ -125,9 +125,10 @@ class Store:
             if isinstance(why, sqlite3.OperationalError) and not str(why).startswith("no such table"):
                 raise
             raise NoStore(f"{path} is no store of lists: {why}") from None
-        self.known: dict = {}
+        # the programmes that are open to candidates with places in these merit lists, from this state
+        self.known: dict[tuple[frozenset[int], str], dict[str, Programme]] = {}
 
-    def fixed(self, name: str):
+    def fixed(self, name: str) -> Any:
         """Returns a value of the store, or None."""
         return next((value for (value,) in self.base.execute("SELECT value FROM fixed WHERE name = ?", (name,))), None)
 
@@ -146,19 +147,19 @@ class Store:
         is_theirs = hmac.compare_digest(kept[0] if kept else bytes(32), hashed(self.salt, token))
         return found if found and is_theirs else None
 
-    def found(self, which: str, value) -> Optional[Person]:
+    def found(self, which: str, value: object) -> Optional[Person]:
         """Returns the candidate of whom this holds."""
         row = self.base.execute(f"SELECT number, board, name, category, traits, places, state FROM candidate WHERE {which}", (value,)).fetchone()
         return Person(row[0], row[1] or str(row[0]), row[2], row[3], row[4], tuple(row[5].split(",")), row[6]) if row else None
 
-    def open_to(self, person: Person) -> dict:
+    def open_to(self, person: Person) -> dict[str, Programme]:
         """Returns the programmes in whose merit list a candidate has a place, by their codes, in the order of the matrix."""
         key = (frozenset(at for at, place in enumerate(person.places, 1) if place), person.state)
         if key not in self.known:
             self.known[key] = {code: it for code, it in self.programmes.items() if it.merit_for(person.state) in key[0]}
         return self.known[key]
 
-    def entries(self, number: int) -> list:
+    def entries(self, number: int) -> list[Entry]:
         """Returns the receipts of a candidate, the newest first."""
         rows = self.base.execute("SELECT * FROM entry WHERE candidate = ? ORDER BY receipt DESC LIMIT 50", (number,))
         return [entry(row) for row in rows]
@@ -168,7 +169,7 @@ class Store:
         row = self.base.execute("SELECT * FROM entry WHERE candidate = ? ORDER BY receipt DESC LIMIT 1", (number,)).fetchone()
         return entry(row) if row else None
 
-    def reports(self, number: int) -> list:
+    def reports(self, number: int) -> list[tuple[int, int, str]]:
         """Returns what a candidate reported as wrong, each with its receipt and time."""
         return self.base.execute("SELECT receipt, at, text FROM report WHERE candidate = ? ORDER BY receipt DESC", (number,)).fetchall()
 
@@ -178,7 +179,7 @@ class Store:
 
     # ---- what is kept; each call is inside of a transaction
 
-    def save(self, number: int, codes: tuple) -> Entry:
+    def save(self, number: int, codes: tuple[str, ...]) -> Entry:
         """Keeps a list, and returns its receipt; the same list again has the same receipt."""
         last = self.unlocked(number)
         if last and last.codes == codes:
@@ -211,7 +212,7 @@ class Store:
             raise Refused("isLocked")
         return last
 
-    def put(self, number: int, kind: str, codes: tuple) -> Entry:
+    def put(self, number: int, kind: str, codes: tuple[str, ...]) -> Entry:
         """Adds a receipt."""
         called = self.base.execute("SELECT coalesce(board, number) FROM candidate WHERE number = ?", (number,)).fetchone()[0]
         row = (number, now(), kind, " ".join(codes), digest_of(row_of(str(called), codes)))
@@ -225,7 +226,9 @@ class Store:
             return before[0][0]
         if len(before) >= MOST_REPORTS:
             raise Refused("tooManyReports")
-        return self.base.execute("INSERT INTO report VALUES(NULL, ?, ?, ?)", (number, now(), text)).lastrowid
+        receipt = self.base.execute("INSERT INTO report VALUES(NULL, ?, ?, ?)", (number, now(), text)).lastrowid
+        assert receipt is not None
+        return receipt
 
     def sign_out(self, visit: str, until: int) -> None:
         """Ends a visit before its time."""
@@ -235,12 +238,13 @@ class Store:
     def close(self) -> int:
         """Closes the season's lists for good, and returns when that was."""
         self.base.execute("INSERT OR IGNORE INTO fixed VALUES('closed', ?)", (now(),))
-        return self.fixed("closed")
+        at: int = self.fixed("closed")
+        return at
 
-    def all_together(self, jobs: list) -> list:
+    def all_together(self, jobs: Sequence[tuple[str, tuple[Any, ...]]]) -> list[Any]:
         """Does all jobs in one transaction and returns what came of each, a value or an exception. Before it returns, all of it is on the disk; if it
         raises, nothing was kept."""
-        came: list = []
+        came: list[Any] = []
         self.base.execute("BEGIN IMMEDIATE")
         try:
             for name, args in jobs:
@@ -255,7 +259,7 @@ class Store:
             raise
         return came
 
-    def done(self, name: str, *args):
+    def done(self, name: str, *args: Any) -> Any:
         """Does one job in a transaction of its own."""
         (came,) = self.all_together([(name, args)])
         if isinstance(came, Refused):
@@ -263,7 +267,7 @@ class Store:
         return came
 
 
-def entry(row: tuple) -> Entry:
+def entry(row: tuple[Any, ...]) -> Entry:
     """Returns a row of the table as a receipt."""
     receipt, candidate, at, kind, codes, digest = row
     return Entry(receipt, candidate, at, kind, tuple(codes.split()), digest)

@@ -32,24 +32,24 @@ def began(number: int) -> Visit:
     return Visit(number, at, at, secrets.token_hex(16))
 
 
-def mac(key: bytes, *parts) -> str:
+def mac(key: bytes, *parts: object) -> str:
     """Returns what shows that these parts were made by this service."""
     return hashlib.blake2b("|".join(map(str, parts)).encode(), key=key, digest_size=32).hexdigest()
 
 
-def cookie(key: bytes, visit: Visit) -> tuple:
+def cookie(key: bytes, visit: Visit) -> tuple[str, str]:
     """Returns the field that gives a browser its visit, seen now."""
     visit = visit._replace(seen=now())
     value = ".".join(map(str, (*visit, mac(key, "visit", *visit))))
     return ("Set-Cookie", f"{COOKIE}={value}; Path=/; Secure; HttpOnly; SameSite=Strict")
 
 
-def no_cookie() -> tuple:
+def no_cookie() -> tuple[str, str]:
     """Returns the field that takes the visit from a browser."""
     return ("Set-Cookie", f"{COOKIE}=; Path=/; Secure; HttpOnly; SameSite=Strict; Max-Age=0")
 
 
-def visit_of(key: bytes, fields: dict) -> Optional[Visit]:
+def visit_of(key: bytes, fields: dict[str, str]) -> Optional[Visit]:
     """Returns the visit of a request, or None if it has none that is right and not over."""
     found = re.search(rf"(?:^|; ?){COOKIE}=([0-9a-f.]{{1,140}})(?:;|$)", fields.get("cookie", ""))
     parts = FORM.fullmatch(found[1]) if found else None

@@ -9,6 +9,9 @@ from typing import Any
 
 from store import Refused, Store
 
+# a job of the store, with what tells its asker what came of it
+Job = tuple[str, tuple[Any, ...], "asyncio.Future[Any]"]
+
 
 class NotKept(Exception):
     """The disk did not take it."""
@@ -20,7 +23,7 @@ class Writer(threading.Thread):
     def __init__(self, path: str, together: int) -> None:
         super().__init__(daemon=True)
         self.path, self.together = path, together
-        self.waiting: queue.SimpleQueue = queue.SimpleQueue()
+        self.waiting: "queue.SimpleQueue[Job]" = queue.SimpleQueue()
         self.loop = asyncio.get_running_loop()
         self.start()
 
@@ -55,7 +58,7 @@ class Writer(threading.Thread):
             self.loop.call_soon_threadsafe(tell, [it for _, _, it in jobs], came)
 
 
-def tell(waiting: list, came: list) -> None:
+def tell(waiting: "list[asyncio.Future[Any]]", came: list[Any]) -> None:
     """Tells those who wait, unless they left."""
     for told, it in zip(waiting, came):
         if not told.done():
