@@ -3,8 +3,8 @@ import hashlib
 import os
 import re
 import tempfile
-from deployed import Tally
 
+from deployed import Tally
 from deployed_files import made_root, seen_in
 from front import found, text_of
 

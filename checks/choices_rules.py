@@ -11,12 +11,12 @@ import string
 import subprocess
 import sys
 import tempfile
-from deployed import Tally
 from typing import Any, Mapping, NamedTuple, Optional, Union
 from urllib.parse import urlencode
 
 from cases import ROOMS
 from choices_load import Service, called
+from deployed import Tally
 from served import TOP, free_port
 
 sys.path.insert(0, f"{TOP}/deploy/choices")

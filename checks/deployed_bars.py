@@ -17,7 +17,7 @@ import browser
 import front
 from deployed import CLERK, bars, body, bundle_of, directly, fronted, in_threads, part, tally, timed
 from deployed_front import PROXYD, haproxied, in_network_of, in_new_network, worker_group
-from front import CLERK_AT, Front, HOST, Office, Reply, called, found, read_reply, request, until
+from front import CLERK_AT, HOST, Front, Office, Reply, called, found, read_reply, request, until
 
 SCHOOL = "127.0.0.20"
 PAPERS = ("window.json", "names.json", "programmes.json", "notice.txt", "round-1.txt")

@@ -13,7 +13,7 @@ from typing import Optional
 from deployed import CLERK, CUT, bars, body, bundle_of, directly, in_threads, part, tally
 from deployed_bars import OWN, after_a_cut, files_in, token_of
 from deployed_files import script
-from front import Front, HOST, Office, Recorder, Reply, called, expired, read_reply, request, text_of
+from front import HOST, Front, Office, Recorder, Reply, called, expired, read_reply, request, text_of
 from served import TOP
 
 REPLY = b"HTTP/1.1 404 Not Found\r\nContent-Length: 0\r\nConnection: close\r\n\r\n"

@@ -17,7 +17,7 @@ from typing import Any, Callable, Iterator, Optional, Sequence
 
 import front
 from deployed import ANSWER, CLERK, CUT, SECOND, THIRD, body, bundle_of, directly, fronted, in_threads, no_tokens, part, tally, timed
-from front import CLERK_AT, DEPLOY, Front, HOST, OTHER_AT, Office, Recorder, Reply, called, found, read_reply, request, text_of, until
+from front import CLERK_AT, DEPLOY, HOST, OTHER_AT, Front, Office, Recorder, Reply, called, found, read_reply, request, text_of, until
 from served import Wrong, free_port, listeners
 
 SLOW = 2.0

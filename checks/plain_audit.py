@@ -16,7 +16,7 @@ import re
 import sys
 from typing import Collection, Generator, Iterable, Iterator, Optional, Union
 
-from plain_office import Answer, Office, Person, Protections, Round, STAYS, STEPS, Season, Seat, TRAITS, greatest
+from plain_office import STAYS, STEPS, TRAITS, Answer, Office, Person, Protections, Round, Season, Seat, greatest
 from plain_scripts import is_request
 from plain_special import read_lists, season_left
 

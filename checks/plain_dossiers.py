@@ -6,11 +6,11 @@ import re
 import runpy
 import subprocess
 import sys
-from typing import Callable, Iterable, Iterator, Mapping, Optional, Sequence, TYPE_CHECKING, Union
+from typing import TYPE_CHECKING, Callable, Iterable, Iterator, Mapping, Optional, Sequence, Union
 
 from cases import SECONDS, called, first_difference
 from plain_audit import MOST_INPUT, applies, verdict
-from plain_office import Answer, Office, Person, Raise, STEPS, Season, Seat, StepList, certificate
+from plain_office import STEPS, Answer, Office, Person, Raise, Season, Seat, StepList, certificate
 from plain_special import Choices, InOrder, Item, drawn_lists, drawn_season, read_lists, season_left
 
 TOP = os.path.dirname(os.path.dirname(os.path.realpath(__file__)))

@@ -4,9 +4,9 @@ The seats that are left are made by taking them away one by one, final row after
 each row of the de-reserved step takes one of OBC while one is left there, and else one of EWS. It serves for a handful of candidates, as the plain office does."""
 import copy
 import csv
-from typing import Optional, Protocol, Sequence, TypeVar, TYPE_CHECKING
+from typing import TYPE_CHECKING, Optional, Protocol, Sequence, TypeVar
 
-from plain_office import Office, Protections, Round, STEPS, Season, Seat, TRAITS, certificate, cutoffs_text, list_text
+from plain_office import STEPS, TRAITS, Office, Protections, Round, Season, Seat, certificate, cutoffs_text, list_text
 
 if TYPE_CHECKING:
     from plain_trials import Draw

@@ -21,7 +21,7 @@ import time
 from typing import Any, Callable, Concatenate, Iterable, Iterator, Optional, ParamSpec, Union
 
 import openapi
-from cases import Case, READS_STORES, ROOMS, SECONDS
+from cases import READS_STORES, ROOMS, SECONDS, Case
 from plain_http import asked, message, replied, reply_bytes
 from plain_office import Office, Person, Season
 

@@ -6,7 +6,7 @@ import re
 from typing import Callable, Dict, List, NamedTuple, Optional, Tuple, Union
 
 from bundles import Row, Section, numbered_rows, sections, split_at, without_special
-from formats import ALLOWED, CATEGORIES, HEADERS, LISTS, Limit, NUMBER, OTHER_WORDS, SEATS, TRAITS
+from formats import ALLOWED, CATEGORIES, HEADERS, LISTS, NUMBER, OTHER_WORDS, SEATS, TRAITS, Limit
 from formats import STEPS as STEPS_OF_MATRIX
 
 DE_RESERVED = "D"

@@ -6,7 +6,7 @@ import re
 from typing import Callable, Iterable, Optional
 
 from bundles import Row, Sections, numbered_rows
-from formats import ALLOWED, ALL_CHOICES, ALL_SEATS, ANSWERS, CANDIDATES, CHOICES, CODE, HEADERS, Limit, MERIT_LISTS, NUMBER, OTHER_WORDS
+from formats import ALLOWED, ALL_CHOICES, ALL_SEATS, ANSWERS, CANDIDATES, CHOICES, CODE, HEADERS, MERIT_LISTS, NUMBER, OTHER_WORDS, Limit
 from formats import PLACE, PROGRAMMES, RAISED, REQUESTS, SEATS, STEPS, TOKEN, TRAITS, TURN, WINDOW, listed
 
 # the field of a fault, and a sentence; and what finds them in the rows of a section
