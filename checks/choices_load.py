@@ -49,7 +49,7 @@ class Service:
 
     @property
     def child(self) -> "subprocess.Popen[bytes]":
-        """The service that was begun last."""
+        """Returns the service that was begun last."""
         assert self.begun, "the service was not begun"
         return self.begun
 

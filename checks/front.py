@@ -52,7 +52,7 @@ class Office:
 
     @property
     def child(self) -> subprocess.Popen[bytes]:
-        """The program that was begun last."""
+        """Returns the program that was begun last."""
         assert self.begun, "the office was not begun"
         return self.begun
 
@@ -209,7 +209,7 @@ class Front:
 
     @property
     def child(self) -> subprocess.Popen[bytes]:
-        """The nginx that was begun."""
+        """Returns the nginx that was begun."""
         assert self.begun, "nginx was not begun"
         return self.begun
 

@@ -106,7 +106,7 @@ class Matrix:
 
     @property
     def sheet(self) -> Table:
-        """Returns the table. Whoever asks knows that there is one."""
+        """Returns the table of a matrix that has one."""
         assert self.table is not None
         return self.table
 

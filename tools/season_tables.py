@@ -127,7 +127,7 @@ class Register:
 
     @property
     def sheet(self) -> Table:
-        """Returns the table. Whoever asks knows that there is one."""
+        """Returns the table of a register that has one."""
         assert self.table is not None
         return self.table
 
@@ -307,7 +307,7 @@ class Choices:
 
     @property
     def sheet(self) -> Table:
-        """Returns the table. Whoever asks knows that there is one."""
+        """Returns the table of choices that have one."""
         assert self.table is not None
         return self.table
 
