@@ -6,7 +6,7 @@ use crate::seasons::{goes_on, run_told, whole};
 use keeper_sqlite::SqliteKeeper;
 use kept_rows::Kept;
 use pending_keeper::Pending;
-use sqlite::{FileStore, Files, Options};
+use sqlite::{Alter, FileStore, Files, Options};
 use sqlite_disk::{Crash, Disk, Fuse, Memory};
 use std::alloc::Global;
 use std::test::Fail;
@@ -98,23 +98,42 @@ struct Leaving {
     is_well: bool,
 }
 
-// Runs the season over the keeper, and crashes.
-fn run_to_crash(alloc: Global, keeper: Store) -> Result<Leaving, Fail> {
-    match run_told(alloc, keeper) {
-        Ok((is_well, told, keeper)) => Ok(Leaving {
-            files: crashed(files_of(keeper)),
-            told,
-            is_well,
-        }),
-        Err(fail) => Err(fail),
+// Runs the season over a keeper of any database. What is proved of one database alone would be much.
+fn run_over<A: Alter + Drop>(
+    alloc: Global,
+    keeper: SqliteKeeper<A>,
+    keep: Keep,
+) -> Result<(bool, usize, SqliteKeeper<A>), Fail> {
+    match keep {
+        Keep::AtOnce => run_told(alloc, keeper),
+        Keep::Waiting => run_waiting(alloc, keeper),
     }
 }
 
-// Runs the season over a keeper above this one in which rows wait, and crashes. What still waits is lost.
-fn run_waiting_to_crash(alloc: Global, keeper: Store) -> Result<Leaving, Fail> {
-    match run_told(alloc, Pending::new(alloc, keeper)) {
-        Ok((is_well, told, waiting)) => Ok(Leaving {
-            files: crashed(files_of(waiting.into_keeper())),
+// Runs it over a keeper above this one in which rows wait. What still waits at the end is lost.
+fn run_waiting<A: Alter + Drop>(
+    alloc: Global,
+    keeper: SqliteKeeper<A>,
+) -> Result<(bool, usize, SqliteKeeper<A>), Fail> {
+    let (is_well, told, waiting) = run_told(alloc, Pending::new(alloc, keeper))?;
+    Ok((is_well, told, waiting.into_keeper()))
+}
+
+// Whether a keeper of any database goes on.
+fn goes_on_over<A: Alter + Drop>(
+    alloc: Global,
+    keeper: SqliteKeeper<A>,
+    counts: &[usize],
+    whole: &Kept,
+) -> Result<bool, Fail> {
+    goes_on(alloc, keeper, counts, whole)
+}
+
+// Runs the season over the keeper, and crashes.
+fn run_to_crash(alloc: Global, keeper: Store, keep: Keep) -> Result<Leaving, Fail> {
+    match run_over(alloc, keeper, keep) {
+        Ok((is_well, told, keeper)) => Ok(Leaving {
+            files: crashed(files_of(keeper)),
             told,
             is_well,
         }),
@@ -125,10 +144,7 @@ fn run_waiting_to_crash(alloc: Global, keeper: Store) -> Result<Leaving, Fail> {
 // The same over these files, where a run may not even begin.
 fn run_and_crash(alloc: Global, files: Stopping, keep: Keep) -> Result<Leaving, Fail> {
     match begun(alloc, files) {
-        Ok(keeper) => match keep {
-            Keep::AtOnce => run_to_crash(alloc, keeper),
-            Keep::Waiting => run_waiting_to_crash(alloc, keeper),
-        },
+        Ok(keeper) => run_to_crash(alloc, keeper, keep),
         Err(files) => Ok(Leaving {
             files,
             told: 0,
@@ -155,7 +171,7 @@ fn survives(
         _ => &next,
     };
     match begun(alloc, files) {
-        Ok(keeper) => goes_on(alloc, keeper, counts, whole),
+        Ok(keeper) => goes_on_over(alloc, keeper, counts, whole),
         Err(files) => {
             let_go(files);
             Ok(false)
