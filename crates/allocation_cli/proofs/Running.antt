@@ -24,12 +24,14 @@ module _ {P D L X : Type 0} (p : KeeperGhosts P) (d : DoorGhosts D L) (l : LinkG
   runs_at_once keeper' none (Err what) runs = tt
 
   -- where one is named, rows wait
-  pub runs_waiting : (waiting : PendingView P) (keeper' : P) (named : Service) → service ≡ Some named → keeper' ≡ waiting.keeper → (result : Result Status X)
-      → IfOk result (RunsAt (waiting_over p) d l words service streams (record { keeper = keeper; rows = [] }) waiting) → IfOk result (RunsOver p d l service words streams keeper keeper')
-  runs_waiting waiting keeper' named some same (Ok status) runs =
-      subst (λ k. RunsOver p d l service words streams keeper k status) (sym same) (subst (λ s. RunsOver p d l s words streams keeper waiting.keeper status) (sym some)
-      (record { left = waiting.rows; runs = subst (λ s. RunsAt (waiting_over p) d l words s streams (record { keeper = keeper; rows = [] }) waiting status) some runs }))
-  runs_waiting waiting keeper' named some same (Err what) runs = tt
+  pub runs_waiting : (first last : PendingView P) (keeper' : P) (named : Service) → first ≡ record { keeper = keeper; rows = [] } → service ≡ Some named → keeper' ≡ last.keeper → (result : Result Status X)
+      → IfOk result (RunsAt (waiting_over p) d l words service streams first last) → IfOk result (RunsOver p d l service words streams keeper keeper')
+  runs_waiting first last keeper' named none some same (Ok status) runs =
+      let over : RunsAt (waiting_over p) d l words (Some named) streams (record { keeper = keeper; rows = [] }) last status =
+      subst (λ (f : PendingView P). RunsAt (waiting_over p) d l words (Some named) streams f last status) none (subst (λ s. RunsAt (waiting_over p) d l words s streams first last status) some runs) in
+      subst (λ k. RunsOver p d l service words streams keeper k status) (sym same)
+      (subst (λ s. RunsOver p d l s words streams keeper last.keeper status) (sym some) (record { left = last.rows; runs = over }))
+  runs_waiting first last keeper' named none some same (Err what) runs = tt
 
 -- what runs over a keeper of two files runs over the files
 pub over_files : {F D L X : Type 0} {g : disk.Ghosts F} → (p : KeeperGhosts (Stored (FileStore F g))) (d : DoorGhosts D L) (l : LinkGhosts L) (image : Image) (words : List (List ℕ)) (service : Option Service)

@@ -22,12 +22,13 @@ ghost use Rattle.allocation_cli.specs.Running.{RunsAt, RunsInMemory, RunsOver, R
 use command_answers::{Status, tell_no_memory};
 use command_words::laws::one_spelling;
 use command_words::{Service, WordsFault, read_words};
-use keeper_mem::{Batch, Keeper, SureKeeper, Teller};
+use keeper_mem::{Keeper, SureKeeper, Teller};
+use keeper_sqlite::SqliteKeeper;
 use office_base::{OutOfMemory, Sink, Source, Words};
 use office_commands::allocate;
 use office_links::{Door, Link};
 use pending_keeper::Pending;
-use sqlite::Start;
+use sqlite::{Alter, Start};
 use standard_streams::{StandardInput, StandardOutput, tell_unheld, words_of};
 use std::alloc::Global;
 use std::io::IsTerminal;
@@ -240,12 +241,12 @@ fn over_file<
     ended
 }
 
-// Runs the words over this keeper, at the doors that they name. Under a service, rows wait above it and are put together.
+// Runs the words over a keeper of any database, at the doors that they name. Under a service, rows wait above it and are put together.
 fn answer_over<
     H: Threads + Wait + Sync + Net<Listener = TcpListener, Stream = TcpStream>,
     I: Source,
     K: Sink,
-    P: Batch + Send,
+    A: Alter + Send,
 >(
     rt: &HostRuntime,
     host: &H,
@@ -253,12 +254,12 @@ fn answer_over<
     service: &Option<Service>,
     source: &mut I,
     sink: &mut K,
-    keeper: P,
-) -> (Result<Status, Unopened>, P)
+    keeper: SqliteKeeper<A>,
+) -> (Result<Status, Unopened>, SqliteKeeper<A>)
     requires { (file : _) × AreNamed words.now file service.now }
-    ensures runs { IfOk result.0 (RunsOver P.Keeper ⟦<SystemDoor<'static> as Door>⟧
-        ⟦<SystemLink<'static> as Link>⟧ service.now words.now (used I.Source K.Sink
-        source.old source.new sink.old sink.new) keeper result.1) }
+    ensures runs { IfOk result.0 (RunsOver ⟦<SqliteKeeper<A> as Keeper>⟧
+        ⟦<SystemDoor<'static> as Door>⟧ ⟦<SystemLink<'static> as Link>⟧ service.now words.now
+        (used I.Source K.Sink source.old source.new sink.old sink.new) keeper result.1) }
     ensures unbound { IfErr result.0 (λ what. (what ≡ Unopened.Port) × IsSome service.now) }
     ensures spared { IsErr result.0 → (source.new ≡ source.old) × (sink.new ≡ sink.old) }
 {
