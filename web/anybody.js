@@ -1,17 +1,20 @@
 /** The page for anybody: how far the season is, the cutoffs, the seats of a programme, the text of a round, and the two questions of a refusal. */
-import { askList, askPlaces, askRound, askState, hasPaper } from "./ask.js";
-import { $, busy, clear, details, dropLinks, el, onPress, onSend, ownWords, ready, saveLink, say, table, textBox, valueOf, verbatim } from "./dom.js";
+import { ask, askList, askPlaces, askRound, askState, hasPaper } from "./ask.js";
+import { $, busy, button, clear, details, dropLinks, el, inParts, onPress, onSend, ownWords, ready, saveLink, say, sayFault, show, table, textBox, valueOf, verbatim } from "./dom.js";
 import { readPlace } from "./cutoffs.js";
 import { fillLike, nameLists, showCutoffs, showLike } from "./finder.js";
 import { isLikeApplication } from "./numbers.js";
 import { listPicture } from "./picture.js";
 import { isCandidate, isCode, lineOf, readList, readRound, readSheet, readSpecial, twoQuestions, Unreadable } from "./rule.js";
-import { announcedEnd, instituteName, instituteOf, lookAgain, papersCome, programmeName, programmeOf, publishedPlace, showContact, showEnd, showNotice, showState } from "./season.js";
+import { meant } from "./search.js";
+import { allCodes, announcedEnd, instituteName, instituteOf, lookAgain, papersCome, programmeName, programmeOf, publishedPlace, seatName, showContact, showEnd, showNotice, showState, textsOfProgramme } from "./season.js";
 import { startVisit } from "./visit.js";
 import { ARRIVING, ASKING, EXAMPLE, FAULTS, MOCK, NOT_DISABILITY, OWN_WORDS, QUESTIONS, ROUND, SEATS, SPECIAL, trouble } from "./words.js";
 
 const MOST_LINES = 400;
 const MOST_ROWS = 200;
+// of so many programmes at once somebody chooses the one that they mean
+const MOST_MEANT = 12;
 // from so many bytes on, the page says how much has arrived
 const LONG = 200_000;
 let season = null;
@@ -51,16 +54,33 @@ function options(select, all) {
 
 // ---- the seats of a programme
 
-async function showList() {
+/** Shows the seats of the programme that somebody typed, by a name or a code. Where several are meant, they are offered as buttons. */
+async function seekList() {
   const said = $("list-said");
   clear($("list"));
   say(said, "plain");
-  const code = valueOf($("programme"), isCode, "code");
-  if (!code) return;
+  const typed = valueOf($("programme"), Boolean, "programme");
+  if (!typed) return;
   const round = Number($("list-round").value);
   if (!round) return say(said, "bad", FAULTS.round);
   say(said, "plain", ASKING);
-  const [got] = await Promise.all([askList(round, code), papersCome()]);
+  await papersCome();
+  const codes = meant(allCodes(), textsOfProgramme, typed);
+  if (codes.length === 1) return showList(round, codes[0]);
+  say(said, "plain", codes.length > 0 && SEATS.which(codes.length));
+  if (codes.length) return show($("list"), ...inParts(codes, MOST_MEANT, SEATS.moreMeant, (some) => el("ul", { class: "answers" }, some.map((it) => el("li", {}, button(seatName(it), () => showList(round, it)))))));
+  // without the papers a code is all that the page can ask for
+  if (isCode(typed)) return showList(round, typed);
+  sayFault($("programme"), "programme");
+  $("programme").focus();
+}
+
+/** Shows the seats of a programme in a round. */
+async function showList(round, code) {
+  const said = $("list-said");
+  clear($("list"));
+  say(said, "plain", ASKING);
+  const got = await askList(round, code);
   const places = await askPlaces(round, code, instituteOf(code));
   if (got.body?.reply !== "list") return say(said, "bad", trouble(got), ownWords(got));
   say(said, "plain");
@@ -72,6 +92,19 @@ async function showList() {
   } catch {
     $("list").replaceChildren(el("p", {}, SEATS.unread), details(OWN_WORDS, verbatim(text)));
   }
+}
+
+/** Offers the programmes of their own list to a candidate who is signed in; to nobody if there is none. */
+async function offerOwn(who) {
+  $("own-part").hidden = true;
+  $("own").replaceChildren();
+  if (!who) return;
+  const got = await ask(`choices/${who.cand}`, { token: who.token, signal: who.signal });
+  await papersCome();
+  const codes = got.body?.reply === "choices" ? got.body.programmes : [];
+  if (who.isOver || !codes.length) return;
+  $("own").replaceChildren(el("option", { value: "" }), ...codes.map((it, at) => el("option", { value: it }, `${at + 1}. ${seatName(it)}`)));
+  $("own-part").hidden = false;
 }
 
 /** The words for the published place of somebody with a seat, or null where it is not published. */
@@ -177,10 +210,11 @@ function cells({ person, before, filled, placement, needed }) {
 fillLike();
 onSend($("like-form"), showLike);
 onSend($("cutoffs-form"), showCutoffs);
-onSend($("list-form"), showList);
+onSend($("list-form"), seekList);
 onSend($("round-form"), showRound);
 onSend($("check-form"), checkRefusal);
 onPress($("refresh"), look);
+$("own").addEventListener("change", () => $("own").value && ($("programme").value = seatName($("own").value)));
 onPress($("example"), () => {
   $("sheet").value = EXAMPLE.sheet;
   $("candidate").value = EXAMPLE.candidate;
@@ -188,7 +222,7 @@ onPress($("example"), () => {
 });
 lookAgain(lookWhile);
 ready();
-startVisit();
+startVisit(offerOwn);
 showNotice($("notice"));
 showContact($("contact"));
 busy(look).then(papersCome).then(nameLists);

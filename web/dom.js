@@ -303,5 +303,5 @@ export function dropLinks() {
 
 /** Offers programme codes with their names at the fields that ask for one. */
 export function offerCodes(codes) {
-  $("codes")?.replaceChildren(...codes.map(([value, label]) => el("option", { value, label })));
+  $("codes")?.replaceChildren(...codes.map(([value, label]) => el("option", { value, label: label === value ? null : label })));
 }

@@ -3,7 +3,8 @@ import { askCutoffs, paper } from "./ask.js";
 import { compared, firstWithin, bySteps, readCutoffs, readCutoffTable, readPlace } from "./cutoffs.js";
 import { $, clear, el, inParts, ownWords, say, sayFault, show, table, valuesOf } from "./dom.js";
 import { isCode, TRAITS } from "./rule.js";
-import { instituteName, instituteOf, isUsed, listName, papersCome, placeOfRank, programmeName, programmeOf, rankListsOf, shownPlace } from "./season.js";
+import { found as foundIn } from "./search.js";
+import { instituteName, instituteOf, isUsed, listName, papersCome, placeOfRank, programmeName, programmeOf, rankListsOf, shownPlace, textsOfProgramme } from "./season.js";
 import { ASKING, CATEGORIES, CUTOFFS, FAULTS, HOLDS, IN_ORDER, kindOfSeat, LIKE, MOCK, NOT_DISABILITY, trouble } from "./words.js";
 
 const AT_ONCE = 50;
@@ -48,15 +49,13 @@ export async function showCutoffs() {
   const [all] = await Promise.all([tableOf(round), papersCome()]);
   const wanted = $("search").value.trim();
   if (!all) return showOne(said, out, round, wanted);
-  const found = all.filter((it) => isFound(it, wanted.toLowerCase()));
+  const found = foundIn(all, ({ code, institute }) => textsOfProgramme(code, institute), wanted);
   if (!found.length) return say(said, "plain", CUTOFFS.noneFound);
   say(said, "plain", CUTOFFS.caption(round, found.length));
   showTable(out, round, found);
   const link = (kind, words) => el("a", { href: `/season/${paperName(kind, round)}`, download: true, class: "button" }, words);
   out.append(el("p", { class: "row" }, link("cutoffs", CUTOFFS.save), link("closing", CUTOFFS.saveClosing)));
 }
-
-const isFound = ({ code, institute }, wanted) => `${programmeName(code)} ${instituteName(institute)}`.toLowerCase().includes(wanted);
 
 async function showOne(said, out, round, code) {
   if (!isCode(code) || round === MOCK) return say(said, "plain", CUTOFFS.noPaper);

@@ -13,6 +13,9 @@ const AT_LEAST = 60_000;
 let coming = null;
 let known = new Map();
 let names = { programmes: new Map(), short: new Map(), institutes: new Map(), lists: new Map(), ranks: new Map(), titles: [] };
+// the names in every language, since people type them as another page or a letter has them
+let everyName = [];
+const LANGUAGES = ["hi"];
 
 async function fetchPapers() {
   const [season, found] = await Promise.all([jsonPaper("programmes.json"), jsonPaper("names.json")]);
@@ -22,10 +25,11 @@ async function fetchPapers() {
     const both = (it) => new Map([...textsOf(found[it]), ...textsOf(found[document.documentElement.lang]?.[it])]);
     const [programmes, short, institutes, lists] = ["programmes", "short", "institutes", "lists"].map(both);
     names = { programmes, short, institutes, lists, ranks: rankLists(both("ranks")), titles: [found.board, found.season] };
+    everyName = [found, ...LANGUAGES.map((it) => found[it] ?? {})].map((part) => ({ own: ["programmes", "short"].map((it) => textsOf(part[it])), institutes: textsOf(part.institutes) }));
   }
   // what is not published yet, or did not arrive, may come later
   if (known.size === 0) coming = null;
-  offerCodes([...known.keys()].map((code) => [code, names.programmes.get(code)]));
+  offerCodes(allCodes().map((code) => [code, seatName(code)]));
 }
 
 /** The texts of a part of a paper by their codes. A code may be any word, so they are in a map. */
@@ -46,6 +50,15 @@ export const instituteName = (code) => named(names.institutes.get(code), code);
 export function seatName(code) {
   const name = names.programmes.get(code);
   return names.short.get(code) ?? (name ? called(name, names.institutes.get(instituteOf(code))) : code);
+}
+
+/** Returns the codes of all published programmes. */
+export const allCodes = () => [...known.keys()];
+
+/** Returns all texts by which people look for a programme: its code, its names and those of its institute in each language, and how the pages call it. */
+export function textsOfProgramme(code, institute = instituteOf(code)) {
+  const inLanguages = everyName.flatMap(({ own, institutes }) => [...own.map((it) => it.get(code)), institutes.get(institute)]);
+  return [code, institute, seatName(code), programmeName(code), ...inLanguages].filter(Boolean);
 }
 
 /** Returns a merit list by its name, or by its number. */

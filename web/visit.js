@@ -4,6 +4,7 @@ import { endVisit, isVisit, leaveForNext, leaveInTime, takeFromLast } from "./se
 import { VISIT } from "./words.js";
 
 let visitor = null;
+let changed = () => {};
 
 async function comesBack() {
   if (!isVisit()) return;
@@ -12,6 +13,7 @@ async function comesBack() {
   visitor = found;
   $("visit").hidden = $("sign-out").hidden = false;
   $("visit-text").textContent = VISIT.signedIn(found.cand);
+  changed(visitor);
 }
 
 /** Says that the sign-in of this visit did not come to this page: nobody is signed out without a word. */
@@ -28,13 +30,15 @@ function leave(cause) {
   const said = (visitor && VISIT.left[cause]) || "";
   visitor?.forget();
   visitor = null;
+  changed(null);
   $("visit").hidden = !said;
   $("visit-text").textContent = said;
   $("sign-out").hidden = true;
 }
 
-/** Takes the visit of this tab from the page before, and keeps it for the next one. */
-export function startVisit() {
+/** Takes the visit of this tab from the page before, and keeps it for the next one. `then` is called with who is signed in, and with null when nobody is any more. */
+export function startVisit(then = () => {}) {
+  changed = then;
   onPress($("sign-out"), () => leave("asked"));
   leaveInTime(leave, () => visitor !== null);
   addEventListener("pageshow", (event) => event.persisted && comesBack());

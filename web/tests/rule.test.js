@@ -1,10 +1,11 @@
-/** Cases for rule.js, cutoffs.js and numbers.js by themselves: node --test web/tests */
+/** Cases for rule.js, cutoffs.js, numbers.js, ranks.js and search.js by themselves: node --test web/tests */
 import assert from "node:assert/strict";
 import { test } from "node:test";
 import { byNearness, compared, firstWithin, readCutoffs, readCutoffTable, readPlace } from "../cutoffs.js";
 import { bare, hashed } from "../numbers.js";
 import { placeOf, rankAt, rankLists } from "../ranks.js";
 import { Filling, grouped, heldBefore, isToken, lineOf, moved, openNow, readList, readSheet, readSpecial, readWhy, settledByList, situation, twoQuestions, Unreadable } from "../rule.js";
+import { found as foundIn, meant } from "../search.js";
 
 const state = (now, rounds = 3) => ({ reply: "state", now, rounds, published: Math.min(now, rounds) });
 const seat = (standing, programme = "A") => ({ reply: "seat", cand: 2, round: 1, standing, programme, step: programme && "OPEN" });
@@ -127,4 +128,20 @@ test("an application number with its token, as tools/board_numbers.py hashes the
 test("tokens as people type them", () => {
   assert.equal(grouped("abcdefgh12"), "abcd efgh 12");
   assert.deepEqual(["abcdefgh", "a".repeat(32), "short", "a b c d e f g h", "abcdefg-"].map(isToken), [true, true, false, false, false]);
+});
+
+test("a programme is found by what a page shows, in any language, and by a code", () => {
+  const texts = {
+    "NITK-CSE": ["NITK-CSE", "NITK", "CSE, NIT Surathkal", "सीएसई, एनआईटी सुरतकल", "National Institute of Technology Karnataka, Surathkal"],
+    "IITG-CSE": ["IITG-CSE", "IITG", "CSE, I.I.T. Goa", "सीएसई, आईआईटी गोवा"],
+    "IIITG-CSE": ["IIITG-CSE", "IIITG", "CSE, IIIT Goa", "सीएसई, आईआईआईटी गोवा (ज़िला)"],
+  };
+  const codes = Object.keys(texts);
+  const finds = (typed) => foundIn(codes, (it) => texts[it], typed);
+  assert.deepEqual(finds("NIT Surathkal"), ["NITK-CSE"]);
+  assert.deepEqual(finds(" एनआईटी  सुरतकल"), ["NITK-CSE"]);
+  assert.deepEqual([finds("surathkal, cse"), finds("nitk-cse"), finds("iit goa"), finds("ज़िला"), finds("जिला")], [["NITK-CSE"], ["NITK-CSE"], ["IITG-CSE"], ["IIITG-CSE"], ["IIITG-CSE"]]);
+  assert.deepEqual([finds("rathkal"), finds(""), finds("NIT Goa")], [["NITK-CSE"], codes, []]);
+  const means = (typed) => meant(codes, (it) => texts[it], typed);
+  assert.deepEqual([means("IITG-CSE"), means("CSE, IIT Goa"), means("cse goa"), means("physics"), means(" - ")], [["IITG-CSE"], ["IITG-CSE"], ["IITG-CSE", "IIITG-CSE"], [], []]);
 });
