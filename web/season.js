@@ -1,6 +1,7 @@
 /** What all pages show of the season: how far it is, when its window closes, the office's notice, and its programmes where they are published. */
 import { askState, freshPaper, jsonPaper, serverTime } from "./ask.js";
 import { details, el, offerCodes, ownWords, say, show, verbatim } from "./dom.js";
+import { withPhones } from "./phone.js";
 import { placeOf, rankAt, rankLists } from "./ranks.js";
 import { lineOf } from "./rule.js";
 import { ASKING, called, CLOSES, ENTRY, HELP, NOTICE, OWN_WORDS, named, phase, trouble, WAITING } from "./words.js";
@@ -112,17 +113,8 @@ let help = null;
 /** Fetches once whom the board names for questions: a text, which may be in Hindi too, and an address. */
 const helpComes = () => (help ??= jsonPaper("help.json"));
 
-// a number to call, in groups as people write it
-const PHONE = /\+?[0-9][0-9 ()-]{5,18}[0-9]/;
-
-/** Returns the elements of a text, whose numbers to call do not break over lines. A text that is a number alone is a link that calls it. */
-function phoned(text) {
-  const found = PHONE.exec(text);
-  if (!found) return [text];
-  const [number] = found;
-  if (number === text) return [el("a", { class: "phone", href: `tel:${number.replace(/[^+0-9]/g, "")}` }, number)];
-  return [text.slice(0, found.index), el("span", { class: "phone" }, number), ...phoned(text.slice(found.index + number.length))].filter(Boolean);
-}
+/** Returns the elements of a text, whose numbers to call are links, and do not break over lines. */
+const phoned = (text) => withPhones(text).map((it) => (it.href ? el("a", { class: "phone", href: it.href }, it.number) : it));
 
 // an address that a browser may open: a page, a mail or a call
 const isAddress = (text) => /^(?:https:\/\/|mailto:|tel:)[^\s]+$/.test(text ?? "");

@@ -3,6 +3,7 @@ import assert from "node:assert/strict";
 import { test } from "node:test";
 import { byNearness, compared, firstWithin, readCutoffs, readCutoffTable, readPlace } from "../cutoffs.js";
 import { bare, hashed } from "../numbers.js";
+import { withPhones } from "../phone.js";
 import { placeOf, rankAt, rankLists } from "../ranks.js";
 import { Filling, grouped, heldBefore, isToken, lineOf, moved, openNow, readList, readSheet, readSpecial, readWhy, settledByList, situation, twoQuestions, Unreadable } from "../rule.js";
 import { found as foundIn, meant } from "../search.js";
@@ -144,4 +145,13 @@ test("a programme is found by what a page shows, in any language, and by a code"
   assert.deepEqual([finds("rathkal"), finds(""), finds("NIT Goa")], [["NITK-CSE"], codes, []]);
   const means = (typed) => meant(codes, (it) => texts[it], typed);
   assert.deepEqual([means("IITG-CSE"), means("CSE, IIT Goa"), means("cse goa"), means("physics"), means(" - ")], [["IITG-CSE"], ["IITG-CSE"], ["IITG-CSE", "IIITG-CSE"], [], []]);
+});
+
+test("numbers to call, and what is none", () => {
+  const calls = (text) => withPhones(text).filter((it) => it.href).map((it) => it.href);
+  const text = "Call 011 2345 6789 or +91-98765 43210 (10 am to 5 pm), (0832) 240 1234, 1800-11-2345 or 98765-43210.";
+  assert.deepEqual(calls(text), ["tel:01123456789", "tel:+919876543210", "tel:08322401234", "tel:1800112345", "tel:9876543210"]);
+  assert.equal(withPhones(text).map((it) => it.number ?? it).join(""), text);
+  assert.deepEqual(calls("Until 02-12-2026 17:00, of 2,50,000 candidates 240310123456 and 1 800 in room 12, 9 to 17"), []);
+  assert.deepEqual(withPhones("011 2345 6789 10 am"), [{ number: "011 2345 6789", href: "tel:01123456789" }, " 10 am"]);
 });
