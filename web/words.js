@@ -507,9 +507,9 @@ export const STATE = {
     ],
     waitingEmpty: () => [`The lists are fixed since round 1. ${SEAT.special}`],
     offered: ({ isLast }) => [isLast ? "This is the last window: each answer but a withdrawal makes this seat your final admission." : "This is your first offer."],
-    kept: ({ choice, isLast, window, by }) => [
+    kept: ({ choice, isLast, isSame, window, by }) => [
       isLast ? "It becomes your final admission when this window closes." : `Your answer is ${choice}, and it holds until you change it.`,
-      `You need not do anything. ${isLast ? "You can still withdraw" : "You can change your answer"} until ${by ?? `window ${window} closes`}.`,
+      `You need not do anything. ${isSame ? "You can still withdraw" : "You can change your answer"} until ${by ?? `window ${window} closes`}.`,
     ],
     admitted: () => ["This admission is final.", "Next, print your letter, and follow the notices of the board and of the institute: they say when and where you report."],
     without: ({ hasSpecial }) => [hasSpecial ? SEAT.noSpecial : SEAT.special],
@@ -595,12 +595,17 @@ export const SEAT = {
 export const ANSWER = {
   question: "Choose one answer",
   change: "You may change your answer",
-  withdrawOnly: "If you do not want a seat",
+  confirm: "Say that you want this seat",
+  withdrawOnly: (seat) => (seat ? "If you do not want this seat" : "If you do not want a seat"),
   noEnd: "No end is announced on this page: look for the time in the notices of the board.",
   narrow: (window) =>
     `You can change your mind until window ${window} closes, except for a withdrawal. After that, slide rules out float, and freeze leaves only withdraw.`,
-  first: "This is the first programme on your list, so no answer can bring you another one. Each of these keeps it, and one of them is enough.",
-  last: "No round follows. Each of these answers makes this seat your final admission, and one of them is enough.",
+  keepSeat: "Keep this seat",
+  keepLine: ({ isLast }) => (isLast ? "It becomes your final admission." : "It is the first programme on your list, so no answer can bring you another one."),
+  keepSure: "Keep this seat?",
+  keepDoes: ({ isLast }) => [ANSWER.keepLine({ isLast }), "The receipt says freeze, which is the office's word for this answer."],
+  keepYes: "Yes, keep it",
+  same: (names) => `${listed(names)} ${names.length === 1 ? "means" : "mean"} the same here`,
   details: "What each answer means",
   leave: "Give up this seat and leave",
   leaveSeason: "Leave the season",

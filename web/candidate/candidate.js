@@ -263,6 +263,7 @@ function showTitle(who) {
     by: end !== null && !isLate ? moment(end) : null,
     isLate,
     isLast: isLast(who),
+    isSame: isLast(who) || Boolean(who.choices && hasFirst(who)),
     window: state.now,
     round: state.published,
     choice: CHOICES[seat.standing]?.name,
@@ -400,22 +401,34 @@ function showAnswers(who) {
   const about = aboutAnswers(who);
   const keeping = open.filter((it) => it !== "withdraw");
   const isFull = turns >= MOST_TURNS;
-  const closed = seat.programme && open.length && !isFull ? ALL_CHOICES.filter((it) => !open.includes(it)) : [];
+  // where all of them only keep the seat, one button is enough, and none if there is an answer already
+  const isOne = keeping.length > 0 && about.isSame;
+  const isAsked = seat.standing === "offered" && !isFull;
+  const closed = seat.programme && open.length && !isFull && !isOne ? ALL_CHOICES.filter((it) => !open.includes(it)) : [];
   who.turns = turns;
   $("answer-part").hidden = open.length === 0 && !$("receipt").hasChildNodes();
-  $("answer-title").textContent = seat.standing === "offered" && !isFull ? ANSWER.question : keeping.length ? ANSWER.change : ANSWER.withdrawOnly;
+  $("answer-title").textContent = isAsked ? (isOne ? ANSWER.confirm : ANSWER.question) : keeping.length && !isOne ? ANSWER.change : ANSWER.withdrawOnly(about.seat);
   $("answer-title").hidden = open.length === 0;
   show(
     $("answers"),
-    keeping.length > 0 && el("ul", { class: "answers" }, keeping.map((it) => el("li", {}, answerButton(who, it, about)))),
-    keeping.length > 0 && about.isLast && ANSWER.last,
-    keeping.length > 0 && !about.isLast && hasFirst(who) && el("p", {}, el("strong", {}, ANSWER.first)),
-    keeping.length > 0 && !about.isLast && details(ANSWER.details, ...keeping.flatMap((it) => [el("h3", {}, CHOICES[it].name), ...paragraphs(CHOICES[it].does(about), Infinity)]), el("p", {}, ANSWER.narrow(state.now))),
+    isOne && isAsked && answerList(keepButton(who, about)),
+    keeping.length > 0 && !isOne && answerList(...keeping.map((it) => answerButton(who, it, about))),
+    keeping.length > 0 && !isOne && details(ANSWER.details, ...keeping.flatMap((it) => [el("h3", {}, CHOICES[it].name), ...paragraphs(CHOICES[it].does(about), Infinity)]), el("p", {}, ANSWER.narrow(state.now))),
     closed.map((it) => el("p", { class: "hint" }, ANSWER.closed(it, CHOICES[left]?.name ?? left))),
     seat.programme && open.length > 0 && turns > 0 && el("p", { class: "hint" }, isFull ? ANSWER.full : ANSWER.used(turns)),
     open.includes("withdraw") && leaving(who, about),
+    isOne && sameAnswers(who, isAsked ? keeping.slice(1) : keeping, about),
   );
 }
+
+const answerList = (...buttons) => el("ul", { class: "answers" }, buttons.map((it) => el("li", {}, it)));
+
+/** The one button where all answers only keep the seat. It sends the first of them. */
+const keepButton = (who, about) =>
+  button([el("strong", {}, ANSWER.keepSeat), el("span", { id: "line-freeze" }, ANSWER.keepLine(about))], () => answer(who, "freeze", true), { id: "answer-freeze", class: "answer one", "aria-describedby": "line-freeze", "data-choice": "freeze" });
+
+/** The answers that mean the same, folded: somebody may want the one of which they have heard. */
+const sameAnswers = (who, same, about) => same.length > 0 && details(ANSWER.same(same.map((it) => CHOICES[it].name)), answerList(...same.map((it) => answerButton(who, it, about))));
 
 function answerButton(who, choice, about) {
   const [name, line, now] = [`name-${choice}`, `line-${choice}`, `now-${choice}`];
@@ -430,14 +443,14 @@ function leaving(who, about) {
   return details(about.seat ? ANSWER.leave : ANSWER.leaveSeason, el("div", { id: "line-withdraw" }, paragraphs(CHOICES.withdraw.does(about))), el("p", {}, press));
 }
 
-async function answer(who, choice) {
+async function answer(who, choice, keeps = false) {
   // the question names programmes by their names, if these come soon
   await Promise.race([papersCome(), new Promise((then) => setTimeout(then, NAMES_WAIT))]);
   if (who !== me) return;
   const about = aboutAnswers(who);
   const isGrave = choice === "withdraw";
-  const lines = [!isGrave && ANSWER.seat(about.seat), ...CHOICES[choice].does(about)];
-  const yes = await confirmed({ title: ANSWER.sure(choice), lines, yes: CHOICES[choice].yes, grave: isGrave, tick: isGrave ? ANSWER.sureTick(about.seat) : null });
+  const lines = [!isGrave && ANSWER.seat(about.seat), ...(keeps ? ANSWER.keepDoes(about) : CHOICES[choice].does(about))];
+  const yes = await confirmed({ title: keeps ? ANSWER.keepSure : ANSWER.sure(choice), lines, yes: keeps ? ANSWER.keepYes : CHOICES[choice].yes, grave: isGrave, tick: isGrave ? ANSWER.sureTick(about.seat) : null });
   if (yes && who === me) await send(who, { cand: who.cand, window: who.state.now, turn: who.turns + 1, choice });
 }
 
