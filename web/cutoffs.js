@@ -47,14 +47,17 @@ export const bySteps = (lines) => STEPS.map((step) => ({ step, lines: lines.filt
 /** Returns whether somebody with this category and place may stand for a step. */
 const mayStand = (step, category, isCommon) => (step === "OPEN" || step === "D" ? isCommon : step === category);
 
-/** Compares a place with the cutoffs of a programme: for each step for which the person may stand, its lines, the line that decides or null for
+/** Returns the lines that can be those of somebody with these letters: each of their letters is one that the person holds. */
+export const heldOf = (lines, traits) => lines.filter((it) => [...it.traits].every((letter) => traits.includes(letter)));
+
+/** Compares a place with the cutoffs of a programme: for each step for which the person may stand, its lines, those of them that can be theirs, the line that decides or null for
  * none, and whether the person is within. `traits` are the letters that the person holds. */
 export function compared(lines, { category, traits }, { place, isCommon }) {
   return STEPS.filter((step) => mayStand(step, category, isCommon)).map((step) => {
     const own = lines.filter((it) => it.step === step);
-    const held = own.filter((it) => [...it.traits].every((letter) => traits.includes(letter)));
+    const held = heldOf(own, traits);
     const best = held.reduce((one, other) => (one === null || other.place > one.place ? other : one), null);
-    return { step, lines: own, best, place, isWithin: best !== null && place <= best.place };
+    return { step, lines: own, held, best, place, isWithin: best !== null && place <= best.place };
   });
 }
 

@@ -182,9 +182,8 @@ export const TRAITS = {
   L: "स्थानीय उम्मीदवारों",
 };
 
-/** Those who hold all of some traits, before a place: `महिलाएँ 9,846`. */
-const HOLDERS = { W: "महिलाएँ", D: "दिव्यांग", X: "भूतपूर्व सैनिक", S: "खिलाड़ी", F: "स्वतंत्रता सेनानियों के आश्रित", L: "स्थानीय उम्मीदवार" };
-const holders = (traits) => [...traits].map((it) => HOLDERS[it]).join(", जो साथ ही ");
+/** Those who hold all of some traits, before a postposition: `महिलाओं`, `दिव्यांग महिलाओं`. */
+const holders = (traits) => (traits.length === 1 ? TRAITS[traits] : traits === "WD" ? "दिव्यांग महिलाओं" : `${[...traits].map((it) => HOLDS[it]).join(" और ")} दोनों श्रेणियों वालों`);
 
 /** What a candidate holds, as the person would say it. */
 export const HOLDS = {
@@ -298,15 +297,16 @@ const ranked = ({ rank, of }, said = null) => `${rank === Infinity ? "किस�
 /** The ranks of some lines, each with its list of ranks where that is another one than before. */
 const ranksOf = (lines) => lines.map((it, at) => ranked(it, lines[at - 1]?.of));
 
-/** Where a kind of seat ends, for everybody and for those who hold traits: `8,017 · महिलाएँ 9,846`. */
-const ends = (lines) => ranksOf(lines).map((it, at) => (lines[at].traits ? `${holders(lines[at].traits)} ${it}` : it)).join(" · ");
+/** Where a kind of seat ends, for everybody and for those who hold traits: `8,017 · महिलाओं को 9,846`. */
+const ends = (lines) => ranksOf(lines).map((it, at) => (lines[at].traits ? `${holders(lines[at].traits)} को ${it}` : it)).join(" · ");
 
-/** The same as a sentence about a kind of seat: `ओपन सीटें रैंक 8,017 तक (महिलाएँ 9,846)।` */
-function endOf(step, lines) {
-  const [first, ...others] = ranksOf(lines);
-  if (lines[0].traits) return `${kindOfSeat(step)} केवल इनके लिए: ${ends(lines).replaceAll(" · ", ", ")}।`;
-  const more = others.map((it, at) => `${holders(lines[at + 1].traits)} ${it}`).join(", ");
-  return `${kindOfSeat(step)} ${lines[0].rank === Infinity ? "किसी भी रैंक पर" : `रैंक ${first} तक`}${more ? ` (${more})` : ""}।`;
+/** The same as a sentence about a kind of seat: `ओपन सीटें रैंक 8,017 तक मिलीं (महिलाओं को 9,846 तक)।` */
+function endOf(step, lines, isAll = true) {
+  const until = ranksOf(lines).map((it, at) => (lines[at].rank === Infinity ? it : `${it} तक`));
+  const parts = until.map((it, at) => (lines[at].traits ? `${holders(lines[at].traits)} को ${it}` : it));
+  if (lines[0].traits) return `${kindOfSeat(step)} ${isAll ? "केवल " : ""}${parts.join(", ")} मिलीं।`;
+  const [first, ...others] = parts;
+  return `${kindOfSeat(step)} ${lines[0].rank === Infinity ? first : `रैंक ${first}`} मिलीं${others.length ? ` (${others.join(", ")})` : ""}।`;
 }
 
 /** How the lists of ranks follow each other in a merit list. */
@@ -366,6 +366,12 @@ export const SEATS = {
   you: "यह आप हैं",
   lettersSay: "डिब्बा बताता है कि उम्मीदवार कौन-सी क्षैतिज आरक्षित सीट भरता है। वह यह नहीं बताता कि उम्मीदवार को प्रवेश उसी के कारण मिला।",
   empty: "खाली",
+  emptyWhy: (step, isMoved) => {
+    const all = step.candidates === 0 ? "इनके लिए किसी पर विचार नहीं हुआ" : "जिन पर विचार हुआ, उन सबको सीट मिल गई";
+    if (isMoved) return `खाली सीटें नीचे आरक्षण से मुक्त की गई सीटें बन गईं, क्योंकि ${all}।`;
+    return ["OPEN", "D"].includes(step.name) ? `सीटें खाली हैं, क्योंकि ${all}।` : `सीटें खाली हैं, क्योंकि ये केवल इसी वर्ग के लिए हैं और ${all}।`;
+  },
+  unfilledOthers: "दूसरों की क्षैतिज आरक्षित सीटें जो नहीं भरीं",
   moreEmpty: (left) => `${count(left, "और सीट खाली है", "और सीटें खाली हैं")}।`,
   more: (left) => `${count(left, "और सीट", "और सीटें")} दिखाएँ`,
   without: (steps) => `यहाँ सीटें नहीं हैं: ${listed(steps.map(([name, candidates]) => `${kindOfSeat(name)}, ${count(candidates, "उम्मीदवार")}`))}।`,
@@ -668,8 +674,16 @@ export const WHY = {
     `${seats === 1 ? "एकमात्र सीट भर चुकी है" : `सभी ${figure(seats)} सीटें भर चुकी हैं`}। आपसे नीचे की रैंक वाले किसी को सीट मिली है। ऐसे किसी भी उम्मीदवार की जगह आपको रखने पर कम क्षैतिज आरक्षित सीटें भरतीं।`,
   nowhere: "यहाँ किसी प्रकार की सीट आपके लिए खुली नहीं थी।",
   // what a step admits, and how far that is from the place of the candidate
-  compare: ({ step, lines, best, own, isWithin }) =>
-    lines.length === 0 ? `${kindOfSeat(step)} अब किसी और को नहीं मिल सकतीं।` : `${endOf(step, lines)} ${isWithin ? WITHIN : best === null ? NOT_YOU : BEHIND(best, own)}`,
+  compare: ({ step, lines, held, best, own, isWithin }) =>
+    lines.length === 0
+      ? `${kindOfSeat(step)} अब किसी और को नहीं मिल सकतीं।`
+      : best === null
+        ? `${kindOfSeat(step)} केवल उन उम्मीदवारों को मिल सकती हैं जिनकी विशेष श्रेणी आपकी नहीं है।`
+        : `${endOf(step, held, held.length === lines.length)} ${isWithin ? WITHIN : BEHIND(best, own)}`,
+  // why a place of one list comes before a smaller number of another one
+  before: (best, own, first) =>
+    `${best.of} की ${figure(best.rank)} आपकी ${figure(own.rank)} से पहले आती है, क्योंकि ये सीटें पहले ${best.of === first ? `उन सबको मिलती हैं जिन्होंने सबके लिए तय मानक पूरा किया, और ${own.of} में वे हैं जिन्होंने केवल उसी लिस्ट का मानक पूरा किया` : `${best.of} के सभी लोगों को मिलती हैं`}।`,
+  allCutoffs: "इस प्रोग्राम के सभी कट-ऑफ़, दूसरों के भी",
   further: "बाकी प्रकार की सीटें भी आपको नहीं मिल सकतीं:",
   relaxed: "ओपन और आरक्षण से मुक्त की गई सीटें यहाँ आपके लिए नहीं हैं, क्योंकि आपकी रैंक छूट वाली है: वह केवल आपके वर्ग की सीटों के लिए गिनी जाती है।",
   counts: (own, list) => `यहाँ ${own.of ?? list} वाली आपकी रैंक गिनी जाती है: ${figure(own.rank)}।`,
@@ -677,7 +691,7 @@ export const WHY = {
   whichPlace: "पन्ने को पता नहीं कि इस प्रोग्राम में आपकी कौन-सी रैंक गिनी जाती है। उसे इन प्रकाशित कट-ऑफ़ से मिलाएँ:",
   line: ({ step, lines }) => endOf(step, lines),
   cutoffsAre:
-    "आपने इस राउंड में भाग लिया और आप इस प्रोग्राम के दावेदार थे। इसलिए आपको सीट तभी मिलती, और ज़रूर मिलती, जब आपकी रैंक आपके लिए दी गई किसी संख्या के बराबर या उससे बेहतर होती। ऐसा नहीं है, इसलिए इन संख्याओं के अनुसार सीट न मिलना सही है।",
+    "आपने इस राउंड में भाग लिया और आप इस प्रोग्राम के दावेदार थे। इसलिए अगर आपकी रैंक ऊपर दिए किसी कट-ऑफ़ तक पहुँचती, तो सीट ज़रूर मिलती। वह किसी तक नहीं पहुँचती, इसलिए इन आँकड़ों के अनुसार सीट न मिलना सही है।",
   checked: "प्रकाशित लिस्ट से पन्ने को यह पता चलता है:",
   seats: (programme) => `${programme} की सीटें किसे मिलीं`,
   next: (number) => `अगले ${number} के कारण बताएँ`,
@@ -693,10 +707,9 @@ export const WHY = {
 };
 
 const WITHIN = "आपकी रैंक इसके भीतर है।";
-const NOT_YOU = "आप इनमें से नहीं हैं।";
 const BEHIND = (best, own) =>
   own.of === best.of
-    ? `आपकी रैंक ${figure(own.rank)} है, ${best.traits ? `${holders(best.traits)} ${figure(best.rank)} से ` : ""}${figure(own.rank - best.rank)} पीछे।`
+    ? `आपकी रैंक ${figure(own.rank)} है, ${best.traits ? `${holders(best.traits)} की आख़िरी रैंक ${figure(best.rank)} से ` : ""}${figure(own.rank - best.rank)} पीछे।`
     : `आपकी रैंक ${ranked(own)} है, और वह पूरी लिस्ट ${best.of} के पीछे आती है।`;
 
 /** A letter of allotment for paper. */

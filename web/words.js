@@ -301,9 +301,9 @@ const ranksOf = (lines) => lines.map((it, at) => ranked(it, lines[at - 1]?.of));
 const ends = (lines) => ranksOf(lines).map((it, at) => (lines[at].traits ? `${holders(lines[at].traits)} ${it}` : it)).join(" · ");
 
 /** The same as a sentence about a kind of seat: `Open seats end at place 8,017 (women 9,846).` */
-function endOf(step, lines) {
+function endOf(step, lines, isAll = true) {
   const [first, ...others] = ranksOf(lines);
-  if (lines[0].traits) return `${kindOfSeat(step)} end at place ${[first, ...others].map((it, at) => `${it} for ${holders(lines[at].traits)}`).join(", ")}, and admit nobody else.`;
+  if (lines[0].traits) return `${kindOfSeat(step)} end at place ${[first, ...others].map((it, at) => `${it} for ${holders(lines[at].traits)}`).join(", ")}${isAll ? ", and admit nobody else" : ""}.`;
   const more = others.map((it, at) => `${holders(lines[at + 1].traits)} ${it}`).join(", ");
   return `${kindOfSeat(step)} ${lines[0].rank === Infinity ? "admit any place" : `end at place ${first}`}${more ? ` (${more})` : ""}.`;
 }
@@ -366,6 +366,12 @@ export const SEATS = {
   you: "this is you",
   lettersSay: "A box says which protected seat a candidate fills. It does not say that the candidate was admitted because of it.",
   empty: "empty",
+  emptyWhy: (step, isMoved) => {
+    const all = step.candidates === 0 ? "nobody was considered for them" : "everyone who was considered for them has a seat";
+    if (isMoved) return `The empty seats became the de-reserved seats below, because ${all}.`;
+    return ["OPEN", "D"].includes(step.name) ? `Seats are empty, because ${all}.` : `Seats are empty, because they are for this category alone, and ${all}.`;
+  },
+  unfilledOthers: "Protected seats for others that are not filled",
   moreEmpty: (left) => `${count(left, "more seat is", "more seats are")} empty.`,
   more: (left) => `Show ${count(left, "more seat")}`,
   without: (steps) => `No seats here: ${listed(steps.map(([name, candidates]) => `${stepName(name)}, ${count(candidates, "candidate")}`))}.`,
@@ -676,8 +682,12 @@ export const WHY = {
     `${seats === 1 ? "the one seat is" : `all ${figure(seats)} seats are`} taken. Someone with a worse place than yours is admitted. With you in the place of any such candidate, fewer protected seats would be filled.`,
   nowhere: "No kind of seat here was open to you.",
   // what a step admits, and how far that is from the place of the candidate
-  compare: ({ step, lines, best, own, isWithin }) =>
-    lines.length === 0 ? `${kindOfSeat(step)} admit nobody more.` : `${endOf(step, lines)} ${isWithin ? WITHIN : best === null ? NOT_YOU : BEHIND(best, own)}`,
+  compare: ({ step, lines, held, best, own, isWithin }) =>
+    lines.length === 0 ? `${kindOfSeat(step)} admit nobody more.` : best === null ? `${kindOfSeat(step)} admit only candidates with a trait that you do not hold.` : `${endOf(step, held, held.length === lines.length)} ${isWithin ? WITHIN : BEHIND(best, own)}`,
+  // why a place of one list comes before a smaller number of another one
+  before: (best, own, first) =>
+    `${ranked(best)} comes before your ${figure(own.rank)}, because these seats go first to everyone ${best.of === first ? `who reached the common standard, and ${own.of} has those who reached only its own` : `in ${best.of}`}.`,
+  allCutoffs: "All cutoffs of this programme, also those for others",
   further: "The other kinds of seats do not admit you either:",
   relaxed: "Open and de-reserved seats are not for you here, because your place is relaxed: it counts for the seats of your category alone.",
   counts: (own, list) => `Here your place in ${own.of ?? list} counts: ${figure(own.rank)}.`,
@@ -685,7 +695,7 @@ export const WHY = {
   whichPlace: "This page does not know which of your places counts at this programme. Compare yours with its published cutoffs:",
   line: ({ step, lines }) => endOf(step, lines),
   cutoffsAre:
-    "You took part in this round and sought this programme. So it has to admit you if your place is one of the numbers that are for you, or a better one, and only then. Yours is not, so by these numbers it is right that you have no seat here.",
+    "You took part in this round and sought this programme. So it has to admit you if your place reaches a cutoff above, and only then. It reaches none, so by these numbers it is right that you have no seat here.",
   checked: "What this page finds from the published list:",
   seats: (programme) => `Who has the seats of ${programme}`,
   next: (number) => `Explain the next ${number}`,
@@ -701,7 +711,6 @@ export const WHY = {
 };
 
 const WITHIN = "Yours is within.";
-const NOT_YOU = "You are none of those.";
 const BEHIND = (best, own) =>
   own.of === best.of
     ? `Yours is ${figure(own.rank)}, ${figure(own.rank - best.rank)} behind${best.traits ? ` the ${figure(best.rank)} for ${holders(best.traits)}` : ""}.`

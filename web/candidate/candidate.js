@@ -1,6 +1,6 @@
 /** The page of a candidate: what to do and by when, the answers that are open, the seat, receipts, why not another programme, and the entry in the register. */
 import { ask, askCutoffs, askList, askPlaces, paper, serverTime } from "../ask.js";
-import { byNearness, bySteps, compared, readCutoffs, readPlace } from "../cutoffs.js";
+import { byNearness, bySteps, compared, heldOf, readCutoffs, readPlace } from "../cutoffs.js";
 import { $, askBeforeLeaving, button, canBeShown, clear, closeQuestions, confirmed, countSigns, details, dropLinks, el, emptyToken, lazyDetails, onPress, onSend, ownWords, paragraphs, ready, saveLink, say, sayFault, show, table, ungrouped, valuesOf, verbatim } from "../dom.js";
 import { printLetter } from "../letter.js";
 import { bare, candidateOf, isLikeApplication, numbersPaper } from "../numbers.js";
@@ -641,6 +641,7 @@ async function refusedParts(who, code, why, text) {
     ...(reasons.length ? [WHY.considered, el("ul", {}, reasons)] : [WHY.nowhere]),
     hasD && el("p", {}, el("strong", {}, NOT_DISABILITY)),
     lazyDetails(WHY.seats(seatName(code)), () => seatsOf(who, code, why)),
+    far?.all.length > 0 && details(WHY.allCutoffs, linesList(far.all)),
     ownTexts(who, OWN.refused(seatName(code), who.state.published), text, got.body?.text),
   ];
 }
@@ -655,32 +656,39 @@ function farFrom(who, code, got) {
   const place = list && places[list - 1];
   try {
     const lines = readCutoffs(got.body.text).lines.map((it) => ({ ...it, ...shownPlace(list, it.place) }));
-    if (!place) return { list: null, steps: bySteps(lines) };
+    const all = bySteps(lines);
+    if (!place) return { list: null, all, steps: bySteps(heldOf(lines, who.entry.traits)).filter((it) => isFor(it.step, who.entry.category)) };
     const own = shownPlace(list, place.place);
-    return { list, place, own, steps: byNearness(compared(lines, who.entry, place)).map((it) => ({ ...it, own })) };
+    return { list, place, own, all, steps: byNearness(compared(lines, who.entry, place)).map((it) => ({ ...it, own })) };
   } catch {
     return null;
   }
 }
 
+// the seats of another category are for its members alone
+const isFor = (step, category) => ["OPEN", "D", category].includes(step);
+
 /** The sentences on how far a place is from the cutoffs, at the steps that have seats or cutoffs: first the one that decides. */
 function comparison(got, far, withSeats) {
   if (got.body?.reply !== "cutoffs") return [trouble(got)];
   if (!far) return [WHY.noCutoffs];
-  if (!far.list) return [WHY.whichPlace, el("ul", {}, far.steps.map((it) => el("li", {}, WHY.line(it))))];
-  const [first, ...others] = far.steps.filter((it) => it.lines.length || withSeats.includes(it.step)).map((it) => WHY.compare(it));
-  const lists = rankListsOf(far.list).map((it) => it.name);
+  if (!far.list) return [WHY.whichPlace, linesList(far.steps)];
+  const steps = far.steps.filter((it) => it.lines.length || withSeats.includes(it.step));
+  const [first, ...others] = steps.map((it) => WHY.compare(it));
   const isWithin = far.steps.some((it) => it.isWithin);
+  const before = steps.find((it) => it.best && !it.isWithin && it.best.of !== it.own.of);
   return [
     WHY.counts(far.own, listName(far.list)),
     first && el("p", { class: "far" }, el("strong", {}, first)),
+    before && WHY.before(before.best, before.own, rankListsOf(far.list)[0]?.name),
     others.length > 0 && !isWithin && WHY.further,
     others.length > 0 && el("ul", { class: "far" }, others.map((it) => el("li", {}, it))),
     !far.place.isCommon && WHY.relaxed,
     isWithin ? el("p", { class: "say bad" }, WHY.within) : el("p", {}, WHY.cutoffsAre),
-    lists.length > 0 && el("p", { class: "hint" }, IN_ORDER(lists)),
   ];
 }
+
+const linesList = (steps) => el("ul", {}, steps.map((it) => el("li", {}, WHY.line(it))));
 
 /** The seats of a programme with the places of who has them, and what its list alone settles of a refusal. */
 async function seatsOf(who, code, why) {
@@ -688,6 +696,7 @@ async function seatsOf(who, code, why) {
   if (got.body?.reply !== "list") return [trouble(got), ownWords(got)];
   const programme = programmeOf(code);
   const own = programme && readPlace(who.entry.places[programme.list - 1]);
+  const lists = programme ? rankListsOf(programme.list).map((it) => it.name) : [];
   // the seats of another category are for its members alone, so no place is compared there
   const stoodFor = (step) => why.steps.some((it) => it.name === step);
   const placeOf = (cand, step) => own && placeWords(programme.list, places?.get(cand), stoodFor(step) ? own : null);
@@ -698,8 +707,9 @@ async function seatsOf(who, code, why) {
       programme && checked.length > 0 && WHY.checked,
       programme && el("ul", {}, checked),
       own && places && WHY.yours(shownPlace(programme.list, own.place)),
+      own && places && lists.length > 0 && el("p", { class: "hint" }, IN_ORDER(lists)),
       !places && el("p", { class: "hint" }, WHY.noPlaces),
-      listPicture(list, got.body.text, programme, who.cand, placeOf),
+      listPicture(list, got.body.text, programme, { cand: who.cand, traits: who.entry.traits }, placeOf),
     ];
   } catch {
     return [WHY.noList, verbatim(got.body.text)];

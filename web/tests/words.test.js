@@ -133,10 +133,16 @@ test("a cutoff is said in words, with how far a place is from it", () => {
   const at = (rank, of = null) => ({ rank, of });
   const lines = [{ traits: "", ...at(8017) }, { traits: "W", ...at(9846) }, { traits: "D", ...at(Infinity) }];
   assert.equal(en.CUTOFFS.ends(lines), "8,017 · women 9,846 · persons with disabilities any place");
-  const far = { step: "OPEN", lines, best: lines[0], own: at(37368), isWithin: false };
+  const far = { step: "OPEN", lines, held: lines, best: lines[0], own: at(37368), isWithin: false };
   assert.equal(en.WHY.compare(far), "Open seats end at place 8,017 (women 9,846, persons with disabilities any place). Yours is 37,368, 29,351 behind.");
   assert.equal(en.WHY.compare({ ...far, best: lines[1] }), "Open seats end at place 8,017 (women 9,846, persons with disabilities any place). Yours is 37,368, 27,522 behind the 9,846 for women.");
-  assert.equal(hi.WHY.compare(far), "ओपन सीटें रैंक 8,017 तक (महिलाएँ 9,846, दिव्यांग किसी भी रैंक पर)। आपकी रैंक 37,368 है, 29,351 पीछे।");
+  assert.equal(hi.WHY.compare(far), "ओपन सीटें रैंक 8,017 तक मिलीं (महिलाओं को 9,846 तक, दिव्यांगों को किसी भी रैंक पर)। आपकी रैंक 37,368 है, 29,351 पीछे।");
+  assert.equal(en.WHY.compare({ ...far, held: lines.slice(0, 1) }), "Open seats end at place 8,017. Yours is 37,368, 29,351 behind.");
+  const women = { ...far, held: lines.slice(1, 2), best: lines[1] };
+  assert.equal(en.WHY.compare(women), "Open seats end at place 9,846 for women. Yours is 37,368, 27,522 behind the 9,846 for women.");
+  assert.equal(hi.WHY.compare(women), "ओपन सीटें महिलाओं को 9,846 तक मिलीं। आपकी रैंक 37,368 है, महिलाओं की आख़िरी रैंक 9,846 से 27,522 पीछे।");
+  assert.equal(en.WHY.compare({ ...far, held: [], best: null }), "Open seats admit only candidates with a trait that you do not hold.");
+  assert.equal(hi.CUTOFFS.ends([{ traits: "WD", ...at(7) }]), "दिव्यांग महिलाओं को 7");
 });
 
 test("where ranks were joined, each is said in its own list, and a distance within one list alone", () => {
@@ -144,14 +150,17 @@ test("where ranks were joined, each is said in its own list, and a distance with
   const open = [{ traits: "", ...at(8017, "CRL") }, { traits: "W", ...at(9846, "CRL") }, { traits: "D", ...at(17, "CRL-PwD") }];
   const own = at(5052, "SC list");
   assert.equal(en.CUTOFFS.ends(open), "8,017 in CRL · women 9,846 · persons with disabilities 17 in CRL-PwD");
-  assert.equal(hi.CUTOFFS.ends(open), "8,017 (CRL) · महिलाएँ 9,846 · दिव्यांग 17 (CRL-PwD)");
+  assert.equal(hi.CUTOFFS.ends(open), "8,017 (CRL) · महिलाओं को 9,846 · दिव्यांगों को 17 (CRL-PwD)");
   assert.equal(
-    en.WHY.compare({ step: "OPEN", lines: open, best: open[0], own, isWithin: false }),
+    en.WHY.compare({ step: "OPEN", lines: open, held: open, best: open[0], own, isWithin: false }),
     "Open seats end at place 8,017 in CRL (women 9,846, persons with disabilities 17 in CRL-PwD). Yours is 5,052 in SC list, and that whole list comes behind CRL.",
   );
   const seats = [{ traits: "", ...at(3004, "SC list") }];
-  assert.equal(en.WHY.compare({ step: "SC", lines: seats, best: seats[0], own, isWithin: false }), "SC seats end at place 3,004 in SC list. Yours is 5,052, 2,048 behind.");
-  assert.equal(hi.WHY.compare({ step: "SC", lines: seats, best: seats[0], own, isWithin: false }), "SC सीटें रैंक 3,004 (SC list) तक। आपकी रैंक 5,052 है, 2,048 पीछे।");
+  assert.equal(en.WHY.compare({ step: "SC", lines: seats, held: seats, best: seats[0], own, isWithin: false }), "SC seats end at place 3,004 in SC list. Yours is 5,052, 2,048 behind.");
+  assert.equal(hi.WHY.compare({ step: "SC", lines: seats, held: seats, best: seats[0], own, isWithin: false }), "SC सीटें रैंक 3,004 (SC list) तक मिलीं। आपकी रैंक 5,052 है, 2,048 पीछे।");
+  const before = "8,017 in CRL comes before your 5,052, because these seats go first to everyone who reached the common standard, and SC list has those who reached only its own.";
+  assert.equal(en.WHY.before(open[0], own, "CRL"), before);
+  assert.equal(en.WHY.before(seats[0], at(17, "CRL-PwD"), "CRL"), "3,004 in SC list comes before your 17, because these seats go first to everyone in SC list.");
   assert.equal(en.LIKE.ahead(at(12, "CRL"), seats[0]), "12 in CRL");
   assert.equal(en.LIKE.ahead(at(3000, "SC list"), seats[0]), "3,000 in SC list, within by 4");
   assert.equal(en.SEATS.place({ rank: null, behind: "CRL" }, false), "place behind all in CRL: behind yours");
