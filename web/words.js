@@ -153,7 +153,7 @@ export const NUMBERS = {
 
 /** Who is signed in, on a page that is not the candidate's own. */
 export const VISIT = {
-  signedIn: (cand) => `You are signed in as candidate ${cand}.`,
+  signedIn: (cand) => `Signed in as candidate ${cand}.`,
   left: { idle: "The page signed you out, because nobody touched it for 15 minutes.", asked: "You are signed out. The page has forgotten your token." },
   lost: "You were signed in, but your browser did not pass that on to this page. Sign in again with your token. What you have sent to the office is not lost.",
 };
@@ -230,13 +230,13 @@ const roundName = (round) => ({ [MOCK]: "the mock round", [SPECIAL]: "the specia
 
 /** How far the season is, sentence by sentence. */
 export function phase({ now, rounds, published }) {
-  if (now === 0) return ["No round is published yet.", "Nobody has a seat before round 1. The clerk publishes it by closing window 0."];
+  if (now === 0) return ["No round is published yet.", "Nobody has a seat before round 1."];
   if (now > rounds) return [`The season is over. ${rounds === 1 ? "The only round is" : `All ${rounds} rounds are`} published, and the final admissions are made.`];
   return [
     `Round ${published} of ${rounds} is published, and window ${now} is open.`,
     now === rounds
-      ? "This is the last window. When the clerk closes it, the final admissions are made."
-      : `When the clerk closes the window, round ${now + 1} is published.`,
+      ? "This is the last window. When it closes, the final admissions are made."
+      : `When the window closes, round ${now + 1} is published.`,
   ];
 }
 
@@ -262,7 +262,7 @@ function left(ms) {
 export const CLOSES = (window, end, ms) =>
   ms > 0
     ? `Window ${window} is announced to close on ${new Date(end).toLocaleString("en-IN", WHEN)}, Indian time. ${left(ms)} left.`
-    : `The announced end of window ${window} has passed. The clerk may close it at any moment.`;
+    : `The announced end of window ${window} has passed. It may close at any moment.`;
 
 /** The same below a heading that names the end. */
 export const LEFT = (window, end, ms) => (ms > 0 ? `${left(ms)} left. Hours are in Indian time.` : CLOSES(window, end, ms));
@@ -594,7 +594,7 @@ export const SEAT = {
   bySpecial: "The special round gave you this seat.",
   noSpecial: "You have no seat in the special round either.",
   noList: "You have no seat, and no round can give you one, because your choice list is empty.",
-  lastKept: "You keep this seat. It becomes your final admission when the clerk closes this window.",
+  lastKept: "You keep this seat. It becomes your final admission when this window closes.",
   changed: "Your seat or your answer has changed since this page showed it. Look again.",
 };
 

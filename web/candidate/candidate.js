@@ -416,8 +416,8 @@ function showAnswers(who) {
     keeping.length > 0 && !isOne && details(ANSWER.details, ...keeping.flatMap((it) => [el("h3", {}, CHOICES[it].name), ...paragraphs(CHOICES[it].does(about), Infinity)]), el("p", {}, ANSWER.narrow(state.now))),
     closed.map((it) => el("p", { class: "hint" }, ANSWER.closed(it, CHOICES[left]?.name ?? left))),
     seat.programme && open.length > 0 && turns > 0 && el("p", { class: "hint" }, isFull ? ANSWER.full : ANSWER.used(turns)),
-    open.includes("withdraw") && leaving(who, about),
     isOne && sameAnswers(who, isAsked ? keeping.slice(1) : keeping, about),
+    open.includes("withdraw") && leaving(who, about),
   );
 }
 
@@ -425,7 +425,7 @@ const answerList = (...buttons) => el("ul", { class: "answers" }, buttons.map((i
 
 /** The one button where all answers only keep the seat. It sends the first of them. */
 const keepButton = (who, about) =>
-  button([el("strong", {}, ANSWER.keepSeat), el("span", { id: "line-freeze" }, ANSWER.keepLine(about))], () => answer(who, "freeze", true), { id: "answer-freeze", class: "answer one", "aria-describedby": "line-freeze", "data-choice": "freeze" });
+  button([el("strong", {}, ANSWER.keepSeat), " ", el("span", { id: "line-freeze" }, ANSWER.keepLine(about))], () => answer(who, "freeze", true), { id: "answer-freeze", class: "answer one", "aria-describedby": "line-freeze", "data-choice": "freeze" });
 
 /** The answers that mean the same, folded: somebody may want the one of which they have heard. */
 const sameAnswers = (who, same, about) => same.length > 0 && details(ANSWER.same(same.map((it) => CHOICES[it].name)), answerList(...same.map((it) => answerButton(who, it, about))));

@@ -19,7 +19,7 @@ export const TERMS = [
   { en: /\bopen seats\b/i, hi: /ओपन सीट/, isBoth: true },
   { en: /\bde-reserved\b/i, hi: /आरक्षण से मुक्त/, isBoth: true },
   { en: /\btraits?\b/i, hi: /विशेष श्रेणि|विशेष श्रेणी/ },
-  { en: /\bprotected seats?\b/i, hi: /क्षैतिज/ },
+  { en: /\bprotected seats?\b/i, hi: /विशेष श्रेणी|के लिए.*आरक्षित/ },
   { en: /\bseason\b/i, hi: /काउंसलिंग/ },
   { en: /\boffice\b/i, hi: /कार्यालय/, isBoth: true },
   { en: /\bboard\b/i, hi: /बोर्ड/, isBoth: true },
@@ -73,7 +73,8 @@ export const NEVER = {
   ],
   hi: [
     [/सत्र/, "काउंसलिंग"],
-    [/संरक्षित/, "आरक्षित (क्षैतिज)"],
+    [/संरक्षित/, "आरक्षित"],
+    [/(?<!में )क्षैतिज/, "विशेष श्रेणी की सीट: nobody knows the word of the law"],
     [/अभ्यर्थी|छात्र|आवेदक/, "उम्मीदवार"],
     [/उम्मीदवार संख्या/, "उम्मीदवार नंबर"],
     [/पेज/, "पन्ना"],
