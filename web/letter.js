@@ -20,8 +20,8 @@ function rowsOf({ cand, application, seat, entry, answers, end }, standing, help
   const place = programme && readPlace(entry.places[programme.list - 1]);
   const last = receiptsOf(answers).at(-1);
   return [
-    [fields.board, board],
-    [fields.season, season],
+    [fields.board, board && el("span", { lang: board.lang }, board.text)],
+    [fields.season, season && el("span", { lang: season.lang }, season.text)],
     [fields.candidate, cand],
     [fields.name, byHand()],
     [fields.application, application ?? byHand()],

@@ -25,12 +25,18 @@ async function fetchPapers() {
     // a name in the language of the page, where the papers have one
     const both = (it) => new Map([...textsOf(found[it]), ...textsOf(found[document.documentElement.lang]?.[it])]);
     const [programmes, short, institutes, lists] = ["programmes", "short", "institutes", "lists"].map(both);
-    names = { programmes, short, institutes, lists, ranks: rankLists(both("ranks")), titles: [found.board, found.season] };
+    names = { programmes, short, institutes, lists, ranks: rankLists(both("ranks")), titles: ["board", "season"].map((it) => titleOf(found, it)) };
     everyName = [found, ...LANGUAGES.map((it) => found[it] ?? {})].map((part) => ({ own: ["programmes", "short"].map((it) => textsOf(part[it])), institutes: textsOf(part.institutes) }));
   }
   // what is not published yet, or did not arrive, may come later
   if (known.size === 0) coming = null;
   offerCodes(allCodes().map((code) => [code, seatName(code)]));
+}
+
+/** Returns a title of a paper in the language of the page, and otherwise in English; undefined where the paper has none. */
+function titleOf(found, name) {
+  const { lang } = document.documentElement;
+  return [[found[lang]?.[name], lang], [found[name], "en"]].map(([text, language]) => ({ text, lang: language })).find((it) => typeof it.text === "string");
 }
 
 /** The texts of a part of a paper by their codes. A code may be any word, so they are in a map. */
@@ -95,8 +101,8 @@ export function placeOfRank(list, at, rank) {
 /** Returns whether a published programme uses a merit list; where none is published, each may be used. */
 export const isUsed = (number) => known.size === 0 || [...known.values()].some((it) => it.list === number);
 
-/** Returns who holds the season and what it is called, each undefined where the papers do not say it. */
-export const seasonTitles = () => names.titles.map((it) => (typeof it === "string" ? it : undefined));
+/** Returns who holds the season and what it is called, each with its language, or undefined where the papers do not say it. */
+export const seasonTitles = () => [names.titles[0], names.titles[1]];
 
 /** Shows the notice of the office where there is one. */
 export async function showNotice(region) {

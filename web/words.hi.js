@@ -280,7 +280,7 @@ export const MOMENT = (ms) => `${clock(ms)} (भारतीय समय)`;
 export const OWN = {
   head: ({ cand, application, time }) => `कार्यालय ने उम्मीदवार ${cand} के बारे में${application ? ` (आवेदन नंबर ${application})` : ""} यह बताया: ${time}। उसकी अपनी पंक्तियाँ हमेशा अंग्रेज़ी में होती हैं, और अदालत उन्हीं को मिलाती है।`,
   seat: ({ round, seat, kind, answer, isOpen }) =>
-    seat ? `राउंड ${round} से आपकी सीट ${seat} में है। सीट का प्रकार: ${kind}।${answer ? ` आपका जवाब: ${answer}।` : isOpen ? " आपने अभी जवाब नहीं दिया है।" : ""}` : round ? `राउंड ${round} में आपके पास सीट नहीं है।` : "अभी कोई राउंड प्रकाशित नहीं हुआ है, इसलिए आपके पास सीट नहीं है।",
+    seat ? `राउंड ${round} के अनुसार आपकी सीट ${seat} में है। सीट का प्रकार: ${kind}।${answer ? ` आपका जवाब: ${answer}।` : isOpen ? " आपने अभी जवाब नहीं दिया है।" : ""}` : round ? `राउंड ${round} में आपके पास सीट नहीं है।` : "अभी कोई राउंड प्रकाशित नहीं हुआ है, इसलिए आपके पास सीट नहीं है।",
   register: (category, traits, places) => `रजिस्टर में आपका विवरण: वर्ग ${category}, विशेष श्रेणियाँ: ${traits}। ${places.length ? `आपकी रैंक: ${places.join("; ")}।` : "किसी मेरिट लिस्ट में आपकी रैंक नहीं है।"}`,
   choices: (programmes) => `आपकी चॉइस लिस्ट: ${programmes.map((it, at) => `${at + 1}. ${it}`).join("; ")}।`,
   noChoices: "आपकी चॉइस लिस्ट खाली है।",
@@ -702,7 +702,7 @@ export const WHY = {
   unread: "पन्ना यह कारण नहीं पढ़ पाया। ये कार्यालय के अपने शब्द हैं।",
   noCutoffs: "पन्ना इस प्रोग्राम के कट-ऑफ़ नहीं पढ़ पाया।",
   save: "शिकायत के लिए यह सब सेव करें",
-  saveHint: "एक फ़ाइल में आपका विवरण, आपकी लिस्ट, आपकी रसीदें, कारण और कट-ऑफ़। आपका टोकन उसमें नहीं है।",
+  saveHint: "एक फ़ाइल में, वाक्यों में: आपका विवरण, आपकी लिस्ट, आपकी रसीदें, कारण और कट-ऑफ़, और उनके नीचे कार्यालय के अपने शब्द। आपका टोकन उसमें नहीं है।",
   fileName: (cand, round) => `complaint-${cand}-round-${round}.txt`,
 };
 
@@ -711,6 +711,21 @@ const BEHIND = (best, own) =>
   own.of === best.of
     ? `आपकी रैंक ${figure(own.rank)} है, ${best.traits ? `${holders(best.traits)} की आख़िरी रैंक ${figure(best.rank)} से ` : ""}${figure(own.rank - best.rank)} पीछे।`
     : `आपकी रैंक ${ranked(own)} है, और वह पूरी लिस्ट ${best.of} के पीछे आती है।`;
+
+/** The file for a complaint. */
+export const COMPLAINT = {
+  title: (cand, round) => `उम्मीदवार ${cand}: राउंड ${round} के बारे में शिकायत के लिए`,
+  facts: ({ application, titles: [board, season], origin, time }) => [
+    ...(board ? [`बोर्ड: ${board}`] : []),
+    ...(season ? [`काउंसलिंग: ${season}`] : []),
+    ...(application ? [`आवेदन नंबर: ${application}`] : []),
+    `सेव करने का समय: ${time}, ${origin} से`,
+  ],
+  own: "क्या ग़लत है, उम्मीदवार के अपने शब्दों में",
+  ownSpace: "..",
+  known: "कार्यालय उम्मीदवार के बारे में क्या जानता है",
+  says: "पन्ना उम्मीदवार से ये वाक्य कहता है। वह इन्हें कार्यालय के अपने शब्दों से बनाता है, जो अंत में हैं और मान्य हैं।",
+};
 
 /** A letter of allotment for paper. */
 export const LETTER = {

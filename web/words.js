@@ -706,7 +706,7 @@ export const WHY = {
   unread: "This page cannot read the reason. These are the office's own words.",
   noCutoffs: "This page cannot read the cutoffs of this programme.",
   save: "Save all of this for a complaint",
-  saveHint: "One file with your entry, your list, your receipts, the reasons and the cutoffs. Your token is not in it.",
+  saveHint: "One file in sentences, with your entry, your list, your receipts, the reasons and the cutoffs, and below them the office's own words. Your token is not in it.",
   fileName: (cand, round) => `complaint-${cand}-round-${round}.txt`,
 };
 
@@ -715,6 +715,21 @@ const BEHIND = (best, own) =>
   own.of === best.of
     ? `Yours is ${figure(own.rank)}, ${figure(own.rank - best.rank)} behind${best.traits ? ` the ${figure(best.rank)} for ${holders(best.traits)}` : ""}.`
     : `Yours is ${ranked(own)}, and that whole list comes behind ${best.of}.`;
+
+/** The file for a complaint. */
+export const COMPLAINT = {
+  title: (cand, round) => `Candidate ${cand}: for a complaint about round ${round}`,
+  facts: ({ application, titles: [board, season], origin, time }) => [
+    ...(board ? [`Board: ${board}`] : []),
+    ...(season ? [`Season: ${season}`] : []),
+    ...(application ? [`Application number: ${application}`] : []),
+    `Saved on ${time}, from ${origin}`,
+  ],
+  own: "What is wrong, in the candidate's own words",
+  ownSpace: "..",
+  known: "What the office knows of the candidate",
+  says: "The page says these sentences to the candidate. It makes them from the office's own words, which are at the end and which count.",
+};
 
 /** A letter of allotment for paper. */
 export const LETTER = {

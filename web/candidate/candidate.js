@@ -1,6 +1,7 @@
 /** The page of a candidate: what to do and by when, the answers that are open, the seat, receipts, why not another programme, and the entry in the register. */
 import { ask, askCutoffs, askList, askPlaces, paper, serverTime } from "../ask.js";
 import { byNearness, bySteps, compared, heldOf, readCutoffs, readPlace } from "../cutoffs.js";
+import { complaintText, sentencesOf } from "../complaint.js";
 import { $, askBeforeLeaving, button, canBeShown, clear, closeQuestions, confirmed, countSigns, details, dropLinks, el, emptyToken, lazyDetails, onPress, onSend, ownWords, paragraphs, ready, saveLink, say, sayFault, show, table, ungrouped, valuesOf, verbatim } from "../dom.js";
 import { printLetter } from "../letter.js";
 import { bare, candidateOf, isLikeApplication, numbersPaper } from "../numbers.js";
@@ -568,6 +569,7 @@ async function explainSome(who, from) {
     const box = el("section", { class: "box" }, el("h3", {}, WHY.heading(at + 1, name, round)));
     const parts = await asking(who, () => explained(who, codes[at]));
     if (who !== me || who.whysOf !== round || parts === null) return;
+    who.papers.set(codes[at], { ...who.papers.get(codes[at]), heading: WHY.heading(at + 1, name, round), says: sentencesOf(parts) });
     box.append(...parts.filter(Boolean).map((it) => (typeof it === "string" ? el("p", {}, it) : it)));
     $("whys").append(box);
     if (at === held) {
@@ -589,7 +591,7 @@ function allExplained(who) {
   show($("complaint"), el("p", { class: "hint" }, WHY.saveHint), el("p", {}, button(WHY.save, () => saveAll(who))));
 }
 
-/** Puts all that a complaint needs into one file: what the page was told, and the lists of the programmes that refused. */
+/** Puts all that a complaint needs into one file: what the page says, what it was told, and the lists of the programmes that refused. */
 async function saveAll(who) {
   const round = who.state.published;
   for (const [code, found] of who.papers) {
@@ -598,9 +600,8 @@ async function saveAll(who) {
     if (who !== me) return;
     found.list = got.body?.text;
   }
-  const own = [who.seat, who.state, who.entry, who.choices, who.answers].map((it) => `${lineOf(it)}\n`);
-  const rest = [...who.papers.values()].flatMap((it) => [it.why, it.cutoffs, it.list].filter(Boolean));
-  show($("complaint"), el("p", { class: "hint" }, WHY.saveHint), el("p", {}, saveLink(WHY.save, WHY.fileName(who.cand, round), [...own, ...rest].join("\n"))));
+  const text = complaintText(who, round, [...who.papers.values()]);
+  show($("complaint"), el("p", { class: "hint" }, WHY.saveHint), el("p", {}, saveLink(WHY.save, WHY.fileName(who.cand, round), text)));
   $("complaint").querySelector("a").click();
 }
 
