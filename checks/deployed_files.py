@@ -514,6 +514,11 @@ def announced(room: str, program: str) -> None:
     wanted = {"programmes": {"A": "Computer Science", "B": "भौतिकी"}, "institutes": {"I1": "Indian Institute, Roorkee"}, "board": "The Board"}
     wanted |= {"short": {"A": "CSE, Roorkee"}, "lists": {"1": "JEE (Advanced)"}, "ranks": {"1-240000": "Rank OBC"}}
     tally.holds(status == 0 and json.loads(text_of(f"{room}/names.json")) == wanted, "names of codes", f"{status} {wrote}")
+    with open(f"{room}/names.csv", "a", encoding="utf-8") as it:
+        it.write("board,,The Board,बोर्ड\nshort,A,\"CSE, Roorkee\",\"सीएसई, रुड़की\"\n")
+    status, wrote = script("announce", [room, "names", f"{room}/names.csv"], program)
+    wanted["hi"] = {"board": "बोर्ड", "short": {"A": "सीएसई, रुड़की"}}
+    tally.holds(status == 0 and json.loads(text_of(f"{room}/names.json")) == wanted, "names in Hindi are in a fourth column", f"{status} {wrote}")
     status, wrote = script("announce", [room, "help", "mailto:help@board.example", "Call 011", "011 पर फ़ोन करें"], program)
     wanted = {"text": "Call 011", "hi": "011 पर फ़ोन करें", "url": "mailto:help@board.example"}
     tally.holds(status == 0 and json.loads(text_of(f"{room}/help.json")) == wanted, "whom candidates ask", f"{status} {wrote}")
@@ -525,6 +530,7 @@ def announced(room: str, program: str) -> None:
         ("no time", ["window", "1", "tomorrow"]),
         ("no window", ["window", "-1", later]),
         ("a code twice", ["names", f"{room}/twice.csv"]),
+        ("a code twice in Hindi", ["names", f"{room}/hindi.csv"]),
         ("a row of another kind", ["names", f"{room}/kind.csv"]),
         ("a rank of no place", ["names", f"{room}/rank.csv"]),
         ("a short token", ["numbers", f"{room}/short.csv"]),
@@ -532,7 +538,7 @@ def announced(room: str, program: str) -> None:
         ("an application number that lost its digits", ["numbers", f"{room}/digits.csv"]),
         ("a file of tokens without application numbers", ["numbers", f"{room}/kind.csv"]),
     ]:
-        given = {"twice": "programme,A,x\nprogramme,A,y\n", "kind": "course,A,x\n", "rank": "rank,1-0R,x\n"}
+        given = {"twice": "programme,A,x\nprogramme,A,y\n", "hindi": "programme,A,x,y\nprogramme,A,x,z\n", "kind": "course,A,x\n", "rank": "rank,1-0R,x\n"}
         given |= {"short": f"{HEAD}1,abcdefgh1234567,A1\n", "number": f"{HEAD}1,abcdefgh12345678,A-1\n2,abcdefgh12345679,a1\n", "digits": f"{HEAD}1,abcdefgh12345678,2.6031E+11\n"}
         for name, text in given.items():
             with open(f"{room}/{name}.csv", "w", encoding="utf-8") as it:
