@@ -73,7 +73,7 @@ export function ready() {
 export function onSend(form, then) {
   form.addEventListener("submit", (event) => {
     event.preventDefault();
-    pressed(event.submitter ?? form.querySelector("button.main"), then);
+    pressed(event.submitter ?? form.querySelector("button.main") ?? form.querySelector("button"), then);
   });
 }
 

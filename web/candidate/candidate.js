@@ -2,7 +2,7 @@
 import { ask, askCutoffs, askList, askPlaces, paper, serverTime } from "../ask.js";
 import { byNearness, bySteps, compared, heldOf, readCutoffs, readPlace } from "../cutoffs.js";
 import { complaintText, sentencesOf } from "../complaint.js";
-import { $, askBeforeLeaving, button, canBeShown, clear, closeQuestions, confirmed, countSigns, details, dropLinks, el, emptyToken, lazyDetails, onPress, onSend, ownWords, paragraphs, ready, saveLink, say, sayFault, show, table, ungrouped, valuesOf, verbatim } from "../dom.js";
+import { $, askBeforeLeaving, button, canBeShown, clear, closeQuestions, confirmed, countSigns, details, dropLinks, el, emptyToken, lazyDetails, onPress, onSend, ownWords, paragraphs, ready, saveLink, say, sayFault, show, table, ungrouped, valueOf, valuesOf, verbatim } from "../dom.js";
 import { printLetter } from "../letter.js";
 import { bare, candidateOf, isLikeApplication, numbersPaper } from "../numbers.js";
 import { headOf, ownReplies, ownTexts, reading } from "../own.js";
@@ -77,6 +77,29 @@ async function showDoor() {
   $("number-label").textContent = NUMBERS.label;
   $("number-hint").textContent = NUMBERS.hint;
   if (numbers.letters) $("number").inputMode = "text";
+  if (me) offerApplication(me);
+}
+
+/** Asks a candidate who signed in with the candidate number for the application number, which nothing else on the page knows: the letter has it then. */
+function offerApplication(who) {
+  $("application-form").hidden = $("letter-button").hidden || !numbers || Boolean(who.application);
+}
+
+/** Takes the application number for the letter and the receipts, if it is that of this candidate. */
+async function addApplication() {
+  const who = me;
+  const typed = valueOf($("application"), (it) => bare(it) !== "", "ownApplication");
+  if (typed === null) return;
+  const found = await candidateOf(numbers, typed, who.token);
+  if (who !== me) return;
+  if (found === null) return stopped({ body: null, trouble: "lost" });
+  if (found !== who.cand) {
+    sayFault($("application"), "ownApplication");
+    return $("application").focus();
+  }
+  who.application = typed;
+  showSeat(who);
+  $("letter-button").focus();
 }
 
 async function comesAs(who, then = () => {}) {
@@ -121,6 +144,8 @@ function forget() {
   for (const it of ["receipt", "why-said"]) say($(it), "plain");
   $("title").textContent = LABELS.candidateTitle;
   $("letter-button").hidden = true;
+  $("application-form").hidden = true;
+  $("application").value = "";
   $("mine").hidden = true;
   $("visit").hidden = true;
   $("visit-text").textContent = "";
@@ -337,6 +362,7 @@ function showSeat(who) {
   } else rows.push([field, SEAT.none]);
   rows.push([SEAT.fields.standing, standing(who)]);
   $("letter-button").hidden = !who.seat.programme;
+  offerApplication(who);
   show($("seat"), facts(rows), seat.step === "D" && el("p", {}, el("strong", {}, NOT_DISABILITY)), phase(state).join(" "), ownReplies(who, who.seat, state));
 }
 
@@ -742,6 +768,7 @@ onSend($("sign-in"), signIn);
 onSend($("why-form"), explainAll);
 onPress($("refresh"), looksAgain);
 onPress($("letter-button"), letter);
+onSend($("application-form"), addApplication);
 onPress($("sign-out"), () => leave("asked"));
 canBeShown($("token"), $("show-token"));
 countSigns($("token"), $("token-count"), grouped);
