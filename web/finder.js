@@ -136,5 +136,6 @@ function wouldAdmit({ code, institute, lines }, entry, places) {
   const place = places[(programmeOf(code)?.list ?? 0) - 1];
   const step = place && firstWithin(compared(shown(code, lines), entry, place));
   if (!step) return null;
-  return [programmeName(code), instituteName(institute), kindOfSeat(step.step), CUTOFFS.ends([step.best]), LIKE.ahead(shownPlace(programmeOf(code).list, place.place), step.best)];
+  const own = shownPlace(programmeOf(code).list, place.place);
+  return [programmeName(code), instituteName(institute), kindOfSeat(step.step), LIKE.ends(own, step.best), LIKE.ahead(own, step.best)];
 }

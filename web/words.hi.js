@@ -343,7 +343,9 @@ export const LIKE = {
   noPaper: "सभी प्रोग्रामों के कट-ऑफ़, या प्रोग्राम ही, यहाँ प्रकाशित नहीं हैं। इसलिए पन्ना मिलान नहीं कर सकता।",
   first: "सीट का प्रकार वह है जो कार्यालय के क्रम में सबसे पहले आता है और जिसके कट-ऑफ़ के भीतर आप हैं। सीट उसी प्रकार की होती।",
   of: (list) => `${list} में आपकी रैंक किस लिस्ट की है?`,
-  ahead: (own, best) => `${ranked(own)}${best.rank === Infinity || best.of !== own.of ? "" : best.rank === own.rank ? ", भीतर की आख़िरी" : `, ${figure(best.rank - own.rank)} से भीतर`}`,
+  // a cutoff in a list behind one's own admits every place of one's own, and its number is for others
+  ends: (own, best) => (best.rank === Infinity || best.of === own.of ? ends([best]) : `${own.of} की हर रैंक`),
+  ahead: (own, best) => `${ranked(own)}${best.rank === Infinity || best.of !== own.of ? "" : best.rank === own.rank ? ", यानी ठीक आख़िरी रैंक" : `, यानी ${figure(best.rank - own.rank)} आगे`}`,
 };
 
 // ---- lists and rounds

@@ -342,6 +342,8 @@ export const LIKE = {
   noPaper: "The cutoffs of all programmes, or the programmes themselves, are not published here. So the page cannot compare them.",
   first: "The kind of seat is the first, in the office's order, within whose cutoff you are. It is the one whose seat it would be.",
   of: (list) => `Which list is your place in ${list} from?`,
+  // a cutoff in a list behind one's own admits every place of one's own, and its number is for others
+  ends: (own, best) => (best.rank === Infinity || best.of === own.of ? ends([best]) : `every place in ${own.of}`),
   ahead: (own, best) => `${ranked(own)}${best.rank === Infinity || best.of !== own.of ? "" : best.rank === own.rank ? ", the last that is within" : `, within by ${figure(best.rank - own.rank)}`}`,
 };
 

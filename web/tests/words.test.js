@@ -163,5 +163,8 @@ test("where ranks were joined, each is said in its own list, and a distance with
   assert.equal(en.WHY.before(seats[0], at(17, "CRL-PwD"), "CRL"), "3,004 in SC list comes before your 17, because these seats go first to everyone in SC list.");
   assert.equal(en.LIKE.ahead(at(12, "CRL"), seats[0]), "12 in CRL");
   assert.equal(en.LIKE.ahead(at(3000, "SC list"), seats[0]), "3,000 in SC list, within by 4");
+  assert.equal(hi.LIKE.ahead(at(3000, "SC list"), seats[0]), "3,000 (SC list), यानी 4 आगे");
+  assert.deepEqual([en, hi].map((it) => it.LIKE.ends(own, open[2])), ["every place in SC list", "SC list की हर रैंक"]);
+  assert.deepEqual([en.LIKE.ends(own, { ...seats[0] }), en.LIKE.ends(own, { traits: "", ...at(Infinity) })], ["3,004 in SC list", "any place"]);
   assert.equal(en.SEATS.place({ rank: null, behind: "CRL" }, false), "place behind all in CRL: behind yours");
 });
