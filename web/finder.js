@@ -1,7 +1,7 @@
 /** The cutoffs of all programmes on the page for anybody: a table with a search, and the programmes that would admit a place. */
 import { askCutoffs, paper } from "./ask.js";
 import { compared, firstWithin, bySteps, readCutoffs, readCutoffTable, readPlace } from "./cutoffs.js";
-import { $, clear, el, inParts, ownWords, say, sayFault, show, table, valuesOf } from "./dom.js";
+import { $, clear, details, el, inParts, ownWords, say, sayFault, show, table, valuesOf } from "./dom.js";
 import { isCode, TRAITS } from "./rule.js";
 import { found as foundIn } from "./search.js";
 import { instituteName, instituteOf, isUsed, listName, papersCome, placeOfRank, programmeName, programmeOf, rankListsOf, shownPlace, textsOfProgramme } from "./season.js";
@@ -32,7 +32,8 @@ const roundOf = (select) => (select.value === MOCK ? MOCK : Number(select.value)
 function caveats(round, programmes) {
   const used = LISTS.filter((list) => programmes.some((it) => programmeOf(it.code)?.list === list));
   const orders = used.map((it) => rankListsOf(it).map((one) => one.name)).filter((it) => it.length);
-  return el("ul", { class: "hint" }, [...orders.map(IN_ORDER), ...CUTOFFS.caveats(round)].map((it) => el("li", {}, it)), hasD(programmes) && el("li", {}, el("strong", {}, NOT_DISABILITY)));
+  const all = details(CUTOFFS.notSaid, el("ul", { class: "hint" }, [...orders.map(IN_ORDER), ...CUTOFFS.caveats()].map((it) => el("li", {}, it))));
+  return el("div", {}, el("p", { class: "hint" }, CUTOFFS.about(round)), hasD(programmes) && el("p", {}, el("strong", {}, NOT_DISABILITY)), all);
 }
 const hasD = (programmes) => programmes.some((it) => it.lines.some((line) => line.step === "D"));
 

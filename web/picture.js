@@ -42,7 +42,7 @@ function stepPicture(step, protect, own, placeOf, isMoved) {
   const all = protect && Object.values(protect).reduce((sum, one) => sum + one, 0);
   const fault = stepFault(step, protect);
   const hidden = step.seats - step.rows.length - MOST_EMPTY;
-  const unfilled = TRAITS.map((trait) => [trait, (protect?.[trait] ?? 0) - step.rows.filter((row) => row.slot === trait).length, protect?.[trait]]).filter(([, left]) => left > 0);
+  const unfilled = TRAITS.map((trait) => [trait, (protect?.[trait] ?? 0) - step.rows.filter((row) => row.slot === trait).length, protect?.[trait]]).filter(([, left]) => left > 0 && emptyOf(step) === 0);
   const isOthers = ([trait]) => own && !own.traits.includes(trait);
   const lines = (some) => some.map((it) => el("p", {}, SEATS.unfilled(...it)));
   return el(
@@ -76,7 +76,7 @@ export function listPicture(list, text, programme, own = null, placeOf = () => n
     {},
     some.map((step) => stepPicture(step, programme ? (programme.steps[step.name]?.protect ?? {}) : null, own, placeOf, areMoved(list, step))),
     some.length === 0 && el("p", {}, SEATS.nothing),
-    some.length > 0 && none.length > 0 && el("p", { class: "hint" }, SEATS.without(none.map((it) => [it.name, it.candidates]))),
+    some.length > 0 && none.length > 0 && el("p", { class: "hint" }, SEATS.without(none.map((it) => it.name))),
     details(OWN_WORDS, verbatim(text)),
   );
 }

@@ -323,8 +323,10 @@ export const CUTOFFS = {
   noneFound: "No programme is found for this.",
   noPaper: "The table of all cutoffs is not published here. Type the code of one programme, and the page asks the office.",
   nobody: "This programme admits nobody more.",
-  caveats: (round) => [
-    `These numbers are about ${roundName(round)} and one person more. Two newcomers within a cutoff may not both be admitted.`,
+  about: (round) => `These numbers are about ${roundName(round)} and one person more.`,
+  notSaid: "What these numbers do not say",
+  caveats: () => [
+    "Two newcomers within a cutoff may not both be admitted.",
     "They count the same other candidates. With one candidate more, others may move on and come back, so someone within a cutoff may still get no seat.",
     "A cutoff means this place or a better one. Holding more traits never makes it stricter.",
     "Open (OPEN) and de-reserved (D) seats are for candidates of every category whose place is not relaxed. The seats of a category are for its members alone.",
@@ -365,7 +367,7 @@ export const SEATS = {
   list: (step, seats) => `${kindOfSeat(step, seats)}: ${count(seats, "seat")}`,
   // a published picture does not show who has a disability
   protectedFor: (trait) => (trait === "D" ? "fills a protected seat" : `fills a seat protected for ${TRAITS[trait]}`),
-  byMerit: "on a seat that is protected for nobody",
+  byMerit: "on an ordinary seat",
   candidate: "Candidate",
   rank: (rank) => `no. ${figure(rank)} on this list`,
   place: (it, isBetter) => `place ${it.rank === null ? `behind all in ${it.behind}` : ranked(it)}${isBetter === null ? "" : isBetter ? ": better than yours" : ": behind yours"}`,
@@ -373,14 +375,14 @@ export const SEATS = {
   lettersSay: "A box says which protected seat a candidate fills. It does not say that the candidate was admitted because of it.",
   empty: "empty",
   emptyWhy: (step, isMoved) => {
-    const all = step.candidates === 0 ? "nobody was considered for them" : "everyone who was considered for them has a seat";
-    if (isMoved) return `The empty seats became the de-reserved seats below, because ${all}.`;
-    return ["OPEN", "D"].includes(step.name) ? `Seats are empty, because ${all}.` : `Seats are empty, because they are for this category alone, and ${all}.`;
+    const all = step.candidates === 0 ? "nobody was considered here" : "everyone who was considered here has a seat";
+    if (isMoved) return `What is empty here became the de-reserved seats below, because ${all}.`;
+    return ["OPEN", "D"].includes(step.name) ? `Not all seats are filled, because ${all}.` : `Not all seats are filled, because they are for this category alone, and ${all}.`;
   },
   unfilledOthers: "Protected seats for others that are not filled",
   moreEmpty: (left) => `${count(left, "more seat is", "more seats are")} empty.`,
   more: (left) => `Show ${count(left, "more seat")}`,
-  without: (steps) => `No seats here: ${listed(steps.map(([name, candidates]) => `${stepName(name)}, ${count(candidates, "candidate")}`))}.`,
+  without: (steps) => `There are no ${listed(steps.map(stepName), "or")} here.`,
   title: (round, programme) => `${programme}, round ${round}`,
   which: (number) => `${count(number, "programme fits", "programmes fit")} this. Which one do you mean?`,
   moreMeant: (some, left) => `Show ${some} more of ${figure(left)}`,
@@ -692,7 +694,7 @@ export const WHY = {
     lines.length === 0 ? `${kindOfSeat(step)} admit nobody more.` : best === null ? `${kindOfSeat(step)} admit only candidates with a trait that you do not hold.` : `${endOf(step, held, held.length === lines.length)} ${isWithin ? WITHIN : BEHIND(best, own)}`,
   // why a place of one list comes before a smaller number of another one
   before: (best, own, first) =>
-    `${ranked(best)} comes before your ${figure(own.rank)}, because these seats go first to everyone ${best.of === first ? `who reached the common standard, and ${own.of} has those who reached only its own` : `in ${best.of}`}.`,
+    `${ranked(best)} comes before your ${figure(own.rank)}, because these seats go first to everyone ${best.of === first ? "who reached the common standard" : `in ${best.of}`}, and ${own.of} has those who reached only ${best.of === first ? "its own" : "its own standard"}.`,
   allCutoffs: "All cutoffs of this programme, also those for others",
   further: "The other kinds of seats do not admit you either:",
   relaxed: "Open and de-reserved seats are not for you here, because your place is relaxed: it counts for the seats of your category alone.",

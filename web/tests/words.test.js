@@ -160,7 +160,7 @@ test("where ranks were joined, each is said in its own list, and a distance with
   assert.equal(hi.WHY.compare({ step: "SC", lines: seats, held: seats, best: seats[0], own, isWithin: false }), "SC सीटें रैंक 3,004 (SC list) तक मिलीं। आपकी रैंक 5,052 है, 2,048 पीछे।");
   const before = "8,017 in CRL comes before your 5,052, because these seats go first to everyone who reached the common standard, and SC list has those who reached only its own.";
   assert.equal(en.WHY.before(open[0], own, "CRL"), before);
-  assert.equal(en.WHY.before(seats[0], at(17, "CRL-PwD"), "CRL"), "3,004 in SC list comes before your 17, because these seats go first to everyone in SC list.");
+  assert.equal(en.WHY.before(seats[0], at(17, "CRL-PwD"), "CRL"), "3,004 in SC list comes before your 17, because these seats go first to everyone in SC list, and CRL-PwD has those who reached only its own standard.");
   assert.equal(en.LIKE.ahead(at(12, "CRL"), seats[0]), "12 in CRL");
   assert.equal(en.LIKE.ahead(at(3000, "SC list"), seats[0]), "3,000 in SC list, within by 4");
   assert.equal(hi.LIKE.ahead(at(3000, "SC list"), seats[0]), "3,000 (SC list), यानी 4 आगे");
