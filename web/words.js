@@ -610,7 +610,8 @@ export const ANSWER = {
   question: "Choose one answer",
   change: "You may change your answer",
   confirm: "Say that you want this seat",
-  withdrawOnly: (seat) => (seat ? "If you do not want this seat" : "If you do not want a seat"),
+  noNeed: "You need not answer again",
+  withdrawOnly: "If you do not want a seat",
   noEnd: "No end is announced on this page: look for the time in the notices of the board.",
   narrow: (window) =>
     `You can change your mind until window ${window} closes, except for a withdrawal. After that, slide rules out float, and freeze leaves only withdraw.`,
@@ -619,7 +620,7 @@ export const ANSWER = {
   keepSure: "Keep this seat?",
   keepDoes: ({ isLast }) => [ANSWER.keepLine({ isLast }), "The receipt says freeze, which is the office's word for this answer."],
   keepYes: "Yes, keep it",
-  same: (names) => `${listed(names)} ${names.length === 1 ? "means" : "mean"} the same here`,
+  same: (names) => `${listed(names)} ${names.length === 1 ? "keeps" : "keep"} this seat too`,
   details: "What each answer means",
   leave: "Give up this seat and leave",
   leaveSeason: "Leave the season",

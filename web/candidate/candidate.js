@@ -434,7 +434,7 @@ function showAnswers(who) {
   const closed = seat.programme && open.length && !isFull && !isOne ? ALL_CHOICES.filter((it) => !open.includes(it)) : [];
   who.turns = turns;
   $("answer-part").hidden = open.length === 0 && !$("receipt").hasChildNodes();
-  $("answer-title").textContent = isAsked ? (isOne ? ANSWER.confirm : ANSWER.question) : keeping.length && !isOne ? ANSWER.change : ANSWER.withdrawOnly(about.seat);
+  $("answer-title").textContent = isAsked ? (isOne ? ANSWER.confirm : ANSWER.question) : isOne ? ANSWER.noNeed : keeping.length ? ANSWER.change : ANSWER.withdrawOnly;
   $("answer-title").hidden = open.length === 0;
   show(
     $("answers"),
