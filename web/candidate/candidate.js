@@ -626,7 +626,7 @@ async function saveAll(who) {
     if (who !== me) return;
     found.list = got.body?.text;
   }
-  const text = complaintText(who, round, [...who.papers.values()]);
+  const text = complaintText(who, round, [...who.papers.values()].filter((it) => it.says));
   show($("complaint"), el("p", { class: "hint" }, WHY.saveHint), el("p", {}, saveLink(WHY.save, WHY.fileName(who.cand, round), text)));
   $("complaint").querySelector("a").click();
 }
