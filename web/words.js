@@ -411,7 +411,7 @@ export const SETTLED = {
   by: {
     notrait: (seats) => `no protected seat here is for what you hold, and ${admittedAll(seats)} a better place.`,
     traitless: (seats) => `you hold no trait, and ${admittedAll(seats)} a better place.`,
-    allfilled: (seats) => `by its letters every protected seat is filled, and ${admittedAll(seats)} a better place.`,
+    allfilled: (seats) => `the list shows every protected seat as filled, and ${admittedAll(seats)} a better place.`,
     sheet: () => "the cutoff settles it, or the sheet of the step, which says what the admitted candidates hold.",
   },
 };
