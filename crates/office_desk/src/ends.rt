@@ -37,7 +37,11 @@ impl<V: Keeps> Desk<V> {
                 let desk = Desk {
                     gate: Mutex::new(()),
                     coming: AtomicU64::new(0),
-                    late: Mutex::new(()),
+                    rounds: AtomicU64::new(0),
+                    even: Mutex::new(()),
+                    of_even: AtomicU64::new(0),
+                    odd: Mutex::new(()),
+                    of_odd: AtomicU64::new(0),
                     table,
                 };
                 Ok((desk, Pass::first(seat)))
@@ -63,7 +67,11 @@ impl<V: Keeps> Desk<V> {
         let Desk {
             gate: _,
             coming: _,
-            late: _,
+            rounds: _,
+            even: _,
+            of_even: _,
+            odd: _,
+            of_odd: _,
             table,
         } = self;
         let mut closed = table.close_with(pass.into_seat());

@@ -14,10 +14,16 @@ pub struct Desk<V: Keeps> {
     // Callers wait here. The caller who has it draws a ticket, which is served at once.
     // A caller that drew a ticket and then slept would hold up all others.
     pub(crate) gate: Mutex<()>,
-    // How many callers wait here. No clause speaks of it: by it a late turn lets them go first.
+    // How many callers sleep here. No clause speaks of this or of the numbers below: by them a late turn lets others go first.
     pub(crate) coming: AtomicU64,
-    // Who takes a late turn has this, so that of several one waits at the gate.
-    pub(crate) late: Mutex<()>,
+    // How many late turns have begun that were the first of their round.
+    pub(crate) rounds: AtomicU64,
+    // Who takes a late turn of an even round has this first, so that of several one waits at the gate; and how many do so.
+    pub(crate) even: Mutex<()>,
+    pub(crate) of_even: AtomicU64,
+    // The same for odd rounds.
+    pub(crate) odd: Mutex<()>,
+    pub(crate) of_odd: AtomicU64,
     pub(crate) table: Table<Option<V>, View<V>, Snapshot<V>, Turns, Global>,
     ghost sized: { (table.shared.table_id.words ≡ 2) × (table.shared.table_id.slots ≡ 1) },
 }
@@ -29,6 +35,8 @@ pub struct Pass<V: Keeps> {
     pub(crate) seat: Seat<Option<V>, View<V>>,
     pub(crate) shares: u64,
     pub(crate) left: u64,
+    // In which round of late turns its last turn was.
+    pub(crate) round: u64,
     ghost idle: { seat.me.0.stage ≡ Idle },
     ghost empty: { seat.me.1 ≡ [] },
     ghost shared: { (seat.me.0.shares ≡ shares) × (1 ≤ shares) × (shares ≤ 2 ^ 30) },

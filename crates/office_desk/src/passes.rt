@@ -45,6 +45,7 @@ impl<V: Keeps> Pass<V> {
             seat,
             shares: WHOLE,
             left: 1 << 40,
+            round: 0,
         }
     }
 
@@ -55,6 +56,7 @@ impl<V: Keeps> Pass<V> {
             seat,
             shares: _,
             left: _,
+            round: _,
         } = self;
         seat
     }
@@ -90,6 +92,7 @@ impl<V: Keeps> Pass<V> {
             seat,
             shares: 1,
             left: turns,
+            round: self.round,
         })
     }
 
@@ -100,7 +103,12 @@ impl<V: Keeps> Pass<V> {
         ensures desk { belongs desk.now self.new }
         ensures union { IsUnion self.old other self.new }
     {
-        let Pass { seat, shares, left } = other;
+        let Pass {
+            seat,
+            shares,
+            left,
+            round: _,
+        } = other;
         unite(desk, &mut self.seat, seat);
         self.shares += shares;
         self.left += left;

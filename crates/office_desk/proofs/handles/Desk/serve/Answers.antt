@@ -7,7 +7,7 @@ use Rattle.office_desk.specs.declared.view.Stage.TheVariants.{Waits}
 use Rattle.office_desk.proofs.EntryLemmas.{own_after, all_from_map}
 use Rattle.office_desk.proofs.TicketLemmas.{all_below}
 use Rattle.office_desk.proofs.Slots.{there_still, taken_out}
-use Rattle.office_desk.proofs.handles.Desk.turn.Goals as goal
+use Rattle.office_desk.proofs.handles.Desk.serve.Goals as goal
 
 pub slot_mut-slot-requires : goal.slot_mut-slot-requires
 slot_mut-slot-requires g c =
