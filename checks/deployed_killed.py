@@ -174,11 +174,8 @@ def put_shims(room: str) -> None:
         os.chmod(f"{room}/bin/{name}", 0o755)
 
 
-@part("go-back killed at each call", ["root"])
-def back_killed(room: str, program: str) -> None:
-    if not READS_STORES:
-        tally.skips("go-back killed at each call", "SQLite 3.37 in Python")
-        return
+def store_and_copy(room: str, program: str) -> tuple[str, Rows, Rows]:
+    """Makes a store in the folder `made`, a copy of it, and more answers in the store. Returns the copy's folder, and the rows of the store and of the copy."""
     put_shims(room)
     os.makedirs(f"{room}/made")
     answered(program, f"{room}/made", True, range(1, 6))
@@ -186,6 +183,15 @@ def back_killed(room: str, program: str) -> None:
     copy = f"{room}/copies/{os.listdir(f'{room}/copies')[0]}"
     answered(program, f"{room}/made", False, range(6, 8))
     old, new = (rows_of(program, f"{it}/season.db", f"{room}/look") for it in (f"{room}/made", copy))
+    return copy, old, new
+
+
+@part("go-back killed at each call", ["root"])
+def back_killed(room: str, program: str) -> None:
+    if not READS_STORES:
+        tally.skips("go-back killed at each call", "SQLite 3.37 in Python")
+        return
+    copy, old, new = store_and_copy(room, program)
     tally.same((count_of(old), count_of(new)), (21, 15), "the store and the copy, each with its log")
     calls = None
     for mode in ("before", "in", "after"):

@@ -13,8 +13,8 @@ from typing import Callable, Iterator, TypeVar
 
 from cases import READS_STORES
 from deployed import part, tally
-from deployed_killed import Rows, after_kill, answered, bytes_of, copies_made, driven, gone_back, kept_aside, put_shims, rows_of, torn
-from front import DEPLOY, SYSTEM, called
+from deployed_killed import Rows, after_kill, bytes_of, copies_made, driven, gone_back, kept_aside, rows_of, store_and_copy, torn
+from front import SYSTEM, called
 
 NEEDS = ["root", "mount", "mkfs.ext4"]
 # the weakest order that ext4 keeps, with lengths that wait for their bytes, and with lengths that do not: the tries take turns
@@ -70,13 +70,7 @@ def back_without_power(room: str, program: str) -> None:
     if not READS_STORES:
         tally.skips("go-back under a lost power", "SQLite 3.37 in Python")
         return
-    put_shims(room)
-    os.makedirs(f"{room}/made")
-    answered(program, f"{room}/made", True, range(1, 6))
-    called([f"{DEPLOY}/keep-copy", f"{room}/made/season.db", f"{room}/copies"], OFFICE=program)
-    copy = f"{room}/copies/{os.listdir(f'{room}/copies')[0]}"
-    answered(program, f"{room}/made", False, range(6, 8))
-    old, new = (rows_of(program, f"{it}/season.db", f"{room}/look") for it in (f"{room}/made", copy))
+    copy, old, new = store_and_copy(room, program)
     disks = [Disk(room, f"{room}/at", how, lambda: shutil.copytree(f"{room}/made", f"{room}/at", dirs_exist_ok=True)) for how in DISKS]
     seen: set[str] = set()
     for at, mode in itertools.product(range(1, 200), ("in", "after")):
