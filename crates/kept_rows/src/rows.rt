@@ -1,5 +1,5 @@
 // The rows of the tables.
-use office_base::{CandId, Choice, Listed, ProgId, StepKind, Text};
+use office_base::{CandId, Choice, Listed, ProgId, SeatKind, StepKind, Text};
 
 /// An accepted answer of a candidate: in which window, at which turn of that window, from 1, and what.
 #[derive(Clone, Copy, PartialEq, Eq)]
@@ -25,7 +25,7 @@ pub struct AllotRow {
     pub round: u16,
     pub cand: CandId,
     pub prog: ProgId,
-    pub step: StepKind,
+    pub step: SeatKind,
 }
 
 /// Answers, in the order in which they were accepted.

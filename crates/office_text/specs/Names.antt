@@ -6,6 +6,8 @@ use Rattle.office_base.specs.declared.asks.Choice.{Choice}
 use Rattle.office_base.specs.declared.asks.Choice.TheVariants.{Freeze, Float, Slide, Withdraw}
 use Rattle.office_base.specs.declared.person.Category.{Category}
 use Rattle.office_base.specs.declared.person.Category.TheVariants.{Gen, Ews, Obc, Sc, St}
+use Rattle.office_base.specs.declared.seat.SeatKind.{SeatKind}
+use Rattle.office_base.specs.declared.seat.SeatKind.TheVariants.{Kept, Under}
 use Rattle.office_base.specs.declared.step.StepKind.{StepKind}
 use Rattle.office_base.specs.declared.step.StepKind.TheVariants.{Open, Ews as EwsStep, Obc as ObcStep, Sc as ScStep, St as StStep, Dereserved}
 
@@ -25,6 +27,11 @@ step_name ObcStep = codes "OBC"
 step_name ScStep = codes "SC"
 step_name StStep = codes "ST"
 step_name Dereserved = codes "D"
+
+-- the name of a kind of seat, as it is written
+abbrev pub seat_kind_name : SeatKind → List ℕ
+seat_kind_name (Under step) = step_name step
+seat_kind_name Kept = codes "KEPT"
 
 -- A second name of a step, which is read and never written. A step without one has its name once more.
 abbrev pub second_name : StepKind → List ℕ

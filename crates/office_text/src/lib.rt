@@ -14,6 +14,6 @@ pub mod number;
 pub mod traits;
 
 pub use lines::{drop_cr, next_field, next_text_line, skip_mark, trim_commas};
-pub use names::{category_name, is_named, read_choice, read_step, step_name};
+pub use names::{category_name, is_named, read_choice, read_step, seat_kind_name, step_name};
 pub use number::{push_number, read_number};
 pub use traits::{letter_of, read_traits, trait_number};

@@ -1,8 +1,8 @@
 // The names of categories, of steps and of choices.
 ghost use Rattle.std.specs.Prelude.{◌≡◌};
-ghost use Rattle.office_text.specs.Names.{category_name, choice_of, is_named, second_name, step_name, step_of};
+ghost use Rattle.office_text.specs.Names.{category_name, choice_of, is_named, seat_kind_name, second_name, step_name, step_of};
 
-use office_base::{Category, Choice, OWN_STEPS, StepKind};
+use office_base::{Category, Choice, OWN_STEPS, SeatKind, StepKind};
 
 /// Returns the name of a category, as it is written.
 pub fn category_name(category: Category) -> &'static str
@@ -28,6 +28,16 @@ pub fn step_name(kind: StepKind) -> &'static str
         StepKind::Sc => "SC",
         StepKind::St => "ST",
         StepKind::Dereserved => "D",
+    }
+}
+
+/// Returns the name of a kind of seat, as it is written: that of its step, or `KEPT`.
+pub fn seat_kind_name(kind: SeatKind) -> &'static str
+    ensures { result.now ≡ seat_kind_name kind }
+{
+    match kind {
+        SeatKind::Under(step) => step_name(step),
+        SeatKind::Kept => "KEPT",
     }
 }
 

@@ -5,7 +5,7 @@ use Rattle.std.specs.List.{flat_map}
 use Rattle.office_base.specs.Certificate.{slot_of}
 use Rattle.office_base.specs.declared.person.Person.{Person}
 use Rattle.office_base.specs.declared.step.Pair.{Pair}
-pub use Rattle.office_text.specs.Names.{step_name}
+pub use Rattle.office_text.specs.Names.{seat_kind_name, step_name}
 use Rattle.office_text.specs.Traits.{letter}
 
 -- the letter of a slot's trait, or a dash where there is none

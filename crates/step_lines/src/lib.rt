@@ -9,4 +9,4 @@
 pub mod lines;
 
 pub use lines::{push_count, push_step_lines};
-pub use office_text::step_name;
+pub use office_text::{seat_kind_name, step_name};
