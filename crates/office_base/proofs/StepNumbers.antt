@@ -75,7 +75,7 @@ all_at test (first ∷ steps) (suc j) kind all at = all_at test steps j kind (an
 pub each_step : (test : StepKind → Bool) → list_all test all_steps ≡ true → (kind : StepKind) → test kind ≡ true
 each_step test all kind = all_at test all_steps (step_number kind) kind all (kind_at kind)
 
-found_among : (test : StepKind → Bool) (steps : List StepKind) (kind : StepKind) → find test steps ≡ Some kind → test kind ≡ true
+pub found_among : {A : Type 0} (test : A → Bool) (steps : List A) (kind : A) → find test steps ≡ Some kind → test kind ≡ true
 found_among test [] kind found = absurd (cc)
 found_among test (first ∷ steps) kind found = elim (cases_Bool (test first)) [
   | inl holds ↦
@@ -89,7 +89,7 @@ found_among test (first ∷ steps) kind found = elim (cases_Bool (test first)) [
 pub found_step : (test : StepKind → Bool) (kind : StepKind) → find test all_steps ≡ Some kind → test kind ≡ true
 found_step test kind found = found_among test all_steps kind found
 
-none_among : (test : StepKind → Bool) (steps : List StepKind) (j : ℕ) (kind : StepKind) → find test steps ≡ None → slice_get steps j ≡ Some kind → test kind ≡ false
+pub none_among : {A : Type 0} (test : A → Bool) (steps : List A) (j : ℕ) (kind : A) → find test steps ≡ None → slice_get steps j ≡ Some kind → test kind ≡ false
 none_among test [] j kind none at = absurd (cc)
 none_among test (first ∷ steps) zero kind none at = elim (cases_Bool (test first)) [
   | inl holds ↦ absurd (let one : Some first ≡ None = sym (cond-true (test first) (Some first) (find test steps) holds) ∙ none in cc (one))

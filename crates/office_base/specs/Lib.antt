@@ -11,6 +11,7 @@ pub mod Numbered
 pub mod Outside
 pub mod Person
 pub mod Placement
+pub mod SeatKinds
 pub mod StepChoice
 pub mod StepNumbers
 pub mod Version

@@ -87,10 +87,3 @@ pub struct Request {
     pub by: By,
     pub ask: Ask,
 }
-
-/// A seat of an allocation: a programme, and the step under which it admits the candidate.
-#[derive(Clone, Copy, Debug, PartialEq, Eq)]
-pub struct Seat {
-    pub prog: ProgId,
-    pub step: StepKind,
-}

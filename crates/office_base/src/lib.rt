@@ -18,6 +18,7 @@ pub mod mem_source;
 pub mod outside;
 mod padding;
 pub mod person;
+pub mod seat;
 pub mod short_text;
 pub mod sorted;
 pub mod step;
@@ -28,7 +29,7 @@ pub mod token;
 pub mod whole;
 pub mod words;
 
-pub use asks::{Ask, By, Choice, Request, Seat};
+pub use asks::{Ask, By, Choice, Request};
 pub use booked::Booked;
 pub use category_steps::{
     ALL_STEPS, CATEGORY_COUNT, CATEGORY_STEPS, CategoryStep, GivesUp, OWN_COUNT, OWN_STEPS,
@@ -41,6 +42,9 @@ pub use mem_sink::MemSink;
 pub use mem_source::{MemSource, fails_at};
 pub use outside::{Sink, Source};
 pub use person::{CandId, Category, ListId, Person, Place, ProgId, TraitSet, better};
+pub use seat::{
+    ALL_SEAT_KINDS, SEAT_KIND_COUNT, Seat, SeatKind, seat_kind_number, seat_kind_of_number,
+};
 pub use sorted::find_sorted;
 pub use step::{Pair, Protections, Step, StepKind};
 pub use step_numbers::{step_number, step_of_number};
