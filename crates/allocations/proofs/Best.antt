@@ -3,10 +3,10 @@ use Rattle.std.proofs.Common.{◌≡◌, ◌≤◌, ◌<◌, ◌+◌, ◌⊎◌,
 use Rattle.std.specs.Prelude.{slice_get, replicate, ◌↔◌}
 use Rattle.std.proofs.lemmas.Bool.{cases_lt}
 use Rattle.std.proofs.lemmas.List.{length-replicate}
-use Rattle.office_base.specs.declared.asks.Seat.{Seat}
+use Rattle.office_base.specs.declared.seat.Seat.{Seat}
 use Rattle.office_base.specs.declared.person.Person.{Person}
 use Rattle.office_base.specs.declared.person.ProgId.{ProgId}
-use Rattle.office_base.specs.declared.step.StepKind.{StepKind}
+use Rattle.office_base.specs.declared.seat.SeatKind.{SeatKind}
 use Rattle.office_base.proofs.Lists.{there_is}
 use Rattle.allocations.specs.Course.{AreSeatsOf, AreSettled, IsHeld, IsSettled, IsUnderway, MayTry, places_left, tried}
 use Rattle.allocations.specs.Fair.{IsBest, IsMarket}
@@ -123,9 +123,9 @@ module _ (rule : Rule) (MayApply : ℕ → List Person → Type 0) (count : ℕ)
   -- the seat that the programmes give to one seeker
   record Gives (next : List ℕ) (s : Seeker) (seat : Option Seat) : Type 0 where
     pub below : (held : Seat) → seat ≡ Some held → held.prog.0 < count
-    pub each : (p : ℕ) (kind : StepKind) → p < count → rule p (tried p seekers next) s.person kind ↔ (seat ≡ Some (seat_at p kind))
+    pub each : (p : ℕ) (kind : SeatKind) → p < count → rule p (tried p seekers next) s.person kind ↔ (seat ≡ Some (seat_at p kind))
 
-  gives_held : (next : List ℕ) (i n p : ℕ) (s : Seeker) (kind : StepKind) → IsUnderway rule count seekers next → slice_get seekers i ≡ Some s → slice_get next i ≡ Some n
+  gives_held : (next : List ℕ) (i n p : ℕ) (s : Seeker) (kind : SeatKind) → IsUnderway rule count seekers next → slice_get seekers i ≡ Some s → slice_get next i ≡ Some n
       → p < count → n ≡ place_of s.list p + 1 → rule p (tried p seekers next) s.person kind → Gives next s (Some (seat_at p kind))
   gives_held next i n p s kind underway there at below place admitted = record {
     below = λ held e. let same : seat_at p kind ≡ held = cc in subst (λ (z : Seat). z.prog.0 < count) same below;

@@ -4,7 +4,7 @@ use Rattle.std.specs.Prelude.{slice_get, ◌||◌}
 use Rattle.std.proofs.lemmas.Bool.{cases_Bool, eq-eqb, eqb-true, lt-ltb, or_cases, or_left, or_right}
 use Rattle.office_base.specs.Lists.{IsAmong, IsSublist}
 use Rattle.office_base.specs.declared.person.Person.{Person}
-use Rattle.office_base.specs.declared.asks.Seat.{Seat}
+use Rattle.office_base.specs.declared.seat.Seat.{Seat}
 use Rattle.placements.proofs.Convert.{same_cand}
 use Rattle.allocations.specs.Market.{Seeker, place_of, rank_of, seat_at, wants, applies, is_of, those, applicants, holders, holders_and}
 use Rattle.allocations.specs.Rule.{Rule, Refuses, IsRefusedBeside, ChoosesWell}

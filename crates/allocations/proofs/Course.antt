@@ -6,8 +6,8 @@ use Rattle.std.proofs.lemmas.Bool.Decides.{nat_tests, eqb_tells}
 use Rattle.office_base.specs.Lists.{IsAmong}
 use Rattle.office_base.specs.declared.person.Person.{Person}
 use Rattle.office_base.specs.declared.person.ProgId.{ProgId}
-use Rattle.office_base.specs.declared.asks.Seat.{Seat}
-use Rattle.office_base.specs.declared.step.StepKind.{StepKind}
+use Rattle.office_base.specs.declared.seat.Seat.{Seat}
+use Rattle.office_base.specs.declared.seat.SeatKind.{SeatKind}
 use Rattle.office_base.proofs.Lists.{get_set_other}
 use Rattle.allocations.specs.Market.{Seeker, place_of, rank_of, seat_at, applies, those, applicants}
 use Rattle.allocations.specs.Rule.{Rule, Admits, Refuses, ChoosesWell}
@@ -150,7 +150,7 @@ within_set rule count p i n seekers next s underway try j k t there at =
     ]
 
 -- a person whom the programme refuses, from those who tried it, has no seat of it in any fair allocation
-not_there : (rule : Rule) (MayApply : ℕ → List Person → Type 0) (count p j k : ℕ) (seekers : List Seeker) (next : List ℕ) (t : Seeker) (others : List (Option Seat)) (seat : Option Seat) (kind : StepKind)
+not_there : (rule : Rule) (MayApply : ℕ → List Person → Type 0) (count p j k : ℕ) (seekers : List Seeker) (next : List ℕ) (t : Seeker) (others : List (Option Seat)) (seat : Option Seat) (kind : SeatKind)
     → IsMarket MayApply count seekers → ChoosesWell rule MayApply → p < count → length next ≡ length seekers
     → ((i m : ℕ) (s : Seeker) → slice_get seekers i ≡ Some s → slice_get next i ≡ Some m → m ≤ length s.list)
     → ((i m : ℕ) (s : Seeker) (x : Option Seat) → slice_get seekers i ≡ Some s → slice_get next i ≡ Some m → slice_get others i ≡ Some x → m ≤ rank_of s.list x + 1)
@@ -172,7 +172,7 @@ not_there rule MayApply count p j k seekers next t others seat kind market well 
 
 -- a place that is not that of the seeker's own seat is before it, if it is not after it
 before_seat : (p n : ℕ) (list : List ProgId) (seat : Option Seat) → place_of list p < length list → n ≡ place_of list p + 1 → n ≤ rank_of list seat + 1
-    → ((kind : StepKind) → seat ≡ Some (seat_at p kind) → ⊥) → n ≤ rank_of list seat
+    → ((kind : SeatKind) → seat ≡ Some (seat_at p kind) → ⊥) → n ≤ rank_of list seat
 before_seat p n list None less place near apart = (let near' : n ≤ length list + 1 = near in omega (arith, less, place))
 before_seat p n list (Some seat) less place near apart = elim (eqb_tells (place_of list p) (place_of list seat.prog.0)) [
   | inl h ↦ absurd (

@@ -1,7 +1,7 @@
 -- Where some leave, and programmes still admit whom they admitted, nobody else does worse.
 use Rattle.std.proofs.Common.{◌≡◌, ◌<◌, ◌≤◌, ◌+◌, inl, inr, ℕ, zero, suc, true, List, [], ◌∷◌, Option, Some, None, length, take, arith, refl, sym, ap, ◌∙◌, subst, length-take}
 use Rattle.std.specs.Prelude.{slice_get}
-use Rattle.office_base.specs.declared.asks.Seat.{Seat}
+use Rattle.office_base.specs.declared.seat.Seat.{Seat}
 use Rattle.office_base.specs.declared.person.Person.{Person}
 use Rattle.office_base.specs.declared.person.ProgId.{ProgId}
 use Rattle.allocations.specs.Compared.{HurtsNobody, SomeLeave}

@@ -5,8 +5,8 @@ use Rattle.std.specs.Prelude.{slice_get}
 use Rattle.office_base.specs.Lists.{IsAmong, IsSublist}
 use Rattle.office_base.specs.declared.person.Person.{Person}
 use Rattle.office_base.specs.declared.person.ProgId.{ProgId}
-use Rattle.office_base.specs.declared.asks.Seat.{Seat}
-use Rattle.office_base.specs.declared.step.StepKind.{StepKind}
+use Rattle.office_base.specs.declared.seat.Seat.{Seat}
+use Rattle.office_base.specs.declared.seat.SeatKind.{SeatKind}
 use Rattle.allocations.specs.Market.{Seeker, place_of, rank_of, seat_at, applies, those, applicants}
 use Rattle.allocations.specs.Rule.{Rule, Admits, Refuses, Grows, ChoosesWell}
 use Rattle.allocations.specs.Fair.{IsMarket, IsOwn, IsAllocation, IsFair, IsNextMarket}
@@ -26,7 +26,7 @@ later_applicants MayApply count p seekers next seats others narrows full full' =
     })
 
 -- In every fair allocation of the next round, a seeker who had a seat and still wants its programme has a seat.
-pub nobody_falls : (rule more : Rule) (MayApply : ℕ → List Person → Type 0) (count p i : ℕ) (seekers next : List Seeker) (seats others : List (Option Seat)) (s t : Seeker) (kind : StepKind)
+pub nobody_falls : (rule more : Rule) (MayApply : ℕ → List Person → Type 0) (count p i : ℕ) (seekers next : List Seeker) (seats others : List (Option Seat)) (s t : Seeker) (kind : SeatKind)
     → IsMarket MayApply count seekers → ChoosesWell rule MayApply → Grows rule more MayApply → IsFair rule count seekers seats → IsFair more count next others
     → IsNextMarket seekers seats next → p < count → slice_get seekers i ≡ Some s → slice_get next i ≡ Some t → slice_get seats i ≡ Some (Some (seat_at p kind))
     → place_of t.list p < length t.list → slice_get others i ≡ Some None → ⊥

@@ -4,8 +4,8 @@ use Rattle.std.specs.Prelude.{slice_get, nat_le}
 use Rattle.std.proofs.lemmas.Bool.{and_from, and_parts, eq-eqb, eqb-true, le-leb, leb-true, lt-ltb, ltb-true}
 use Rattle.std.proofs.lemmas.Bool.Decides.{eqb_tells}
 use Rattle.office_base.specs.declared.person.ProgId.{ProgId}
-use Rattle.office_base.specs.declared.asks.Seat.{Seat}
-use Rattle.office_base.specs.declared.step.StepKind.{StepKind}
+use Rattle.office_base.specs.declared.seat.Seat.{Seat}
+use Rattle.office_base.specs.declared.seat.SeatKind.{SeatKind}
 use Rattle.allocations.specs.Market.{place_of, rank_of, seat_at, wants, applies, is_of}
 use Rattle.allocations.specs.Fair.{IsOwn}
 
@@ -85,13 +85,13 @@ pub seat_same : (x y : Seat) → x.prog.0 ≡ y.prog.0 → x.step ≡ y.step →
 seat_same x y prog step = ap (λ p. seat_at p x.step) prog ∙ ap (λ k. seat_at y.prog.0 k) step
 
 -- the seat of a programme is of it
-pub of_seat_at : (p : ℕ) (kind : StepKind) → is_of p (Some (seat_at p kind)) ≡ true
+pub of_seat_at : (p : ℕ) (kind : SeatKind) → is_of p (Some (seat_at p kind)) ≡ true
 of_seat_at p kind = eq-eqb p p refl
 
-pub of_seat : (p : ℕ) (seat : Option Seat) (kind : StepKind) → seat ≡ Some (seat_at p kind) → is_of p seat ≡ true
+pub of_seat : (p : ℕ) (seat : Option Seat) (kind : SeatKind) → seat ≡ Some (seat_at p kind) → is_of p seat ≡ true
 of_seat p seat kind e = rw e (of_seat_at p kind)
 
 -- a seat that is of a programme, with its step
-pub seat_of : (p : ℕ) (seat : Option Seat) → is_of p seat ≡ true → (kind : StepKind) × (seat ≡ Some (seat_at p kind))
+pub seat_of : (p : ℕ) (seat : Option Seat) → is_of p seat ≡ true → (kind : SeatKind) × (seat ≡ Some (seat_at p kind))
 seat_of p None e = absurd (cc)
 seat_of p (Some seat) e = (seat.step, ap Some (seat_same seat (seat_at p seat.step) (eqb-true _ _ e) refl))

@@ -4,7 +4,7 @@ use Rattle.std.specs.Prelude.{slice_get}
 use Rattle.std.proofs.lemmas.Bool.{cases_lt, lt-ltb}
 use Rattle.std.proofs.lemmas.Bool.Decides.{nat_tests}
 use Rattle.office_base.specs.Lists.{IsAmong, IsSublist}
-use Rattle.office_base.specs.declared.asks.Seat.{Seat}
+use Rattle.office_base.specs.declared.seat.Seat.{Seat}
 use Rattle.office_base.specs.declared.person.Person.{Person}
 use Rattle.allocations.specs.Fair.{IsMarket, IsAllocation, IsFair, IsBest}
 use Rattle.allocations.specs.Market.{Seeker, place_of, seat_at, applies, is_of, applicants, holders}
@@ -17,11 +17,11 @@ use Rattle.allocations.proofs.Those.{of_those, part, those_has, value_at}
 
 -- ---- sums
 
-abbrev sum_below : (ℕ → ℕ) → ℕ → ℕ
+abbrev pub sum_below : (ℕ → ℕ) → ℕ → ℕ
 sum_below f zero = 0
 sum_below f (suc n) = sum_below f n + f n
 
-sum_le : (f g : ℕ → ℕ) (n : ℕ) → ((p : ℕ) → p < n → f p ≤ g p) → sum_below f n ≤ sum_below g n
+pub sum_le : (f g : ℕ → ℕ) (n : ℕ) → ((p : ℕ) → p < n → f p ≤ g p) → sum_below f n ≤ sum_below g n
 sum_le f g zero each = omega arith
 sum_le f g (suc n) each = let rest = sum_le f g n (λ p less. each p (omega (arith, less))) in let here = each n (omega arith) in omega (arith, rest, here)
 
@@ -47,7 +47,7 @@ abbrev is_below : ℕ → Option Seat → Bool
 is_below n None = false
 is_below n (Some seat) = nat_lt seat.prog.0 n
 
-abbrev one_if : Bool → ℕ
+abbrev pub one_if : Bool → ℕ
 one_if b = if b then 1 else 0
 
 abbrev seated : ℕ → List (Option Seat) → ℕ
@@ -61,7 +61,7 @@ below_next n (Some seat) = number seat.prog.0 n
     number : (k n : ℕ) → one_if (nat_lt k (suc n)) ≡ one_if (nat_lt k n) + one_if (k == n)
     number k n = grind (arith, nat_tests)
 
-length_if : (b : Bool) (x : Person) (xs : List Person) → length (if b then x ∷ xs else xs) ≡ one_if b + length xs
+pub length_if : (b : Bool) (x : Person) (xs : List Person) → length (if b then x ∷ xs else xs) ≡ one_if b + length xs
 length_if true x xs = omega arith
 length_if false x xs = omega arith
 
@@ -89,7 +89,7 @@ seated_sum (suc n) seekers seats full = let rest = seated_sum n seekers seats fu
 abbrev AreSeated : ℕ → List (Option Seat) → List (Option Seat) → Type 0
 AreSeated n seats others = (i : ℕ) (seat other : Option Seat) → slice_get seats i ≡ Some seat → slice_get others i ≡ Some other → is_below n seat ≡ true → is_below n other ≡ true
 
-one_le : (b c : Bool) → (b ≡ true → c ≡ true) → one_if b ≤ one_if c
+pub one_le : (b c : Bool) → (b ≡ true → c ≡ true) → one_if b ≤ one_if c
 one_le true true h = omega arith
 one_le true false h = absurd (let e = h refl in cc)
 one_le false c h = omega arith
@@ -163,7 +163,7 @@ own_below MayApply count i seekers seats s seat market allocation there has =
     subst (λ n. n < count) q.2 below
 
 -- at a place of the seats there is a seeker
-seeker_at : (seekers : List Seeker) (seats : List (Option Seat)) (i : ℕ) (seat : Option Seat) → length seats ≡ length seekers → slice_get seats i ≡ Some seat
+pub seeker_at : (seekers : List Seeker) (seats : List (Option Seat)) (i : ℕ) (seat : Option Seat) → length seats ≡ length seekers → slice_get seats i ≡ Some seat
     → (s : Seeker) × (slice_get seekers i ≡ Some s)
 seeker_at seekers [] i seat full has = absurd (cc)
 seeker_at [] (x ∷ seats) i seat full has = absurd (omega (arith, full))

@@ -3,7 +3,7 @@
 use Rattle.std.specs.Prelude.{◌≡◌, ◌≢◌, ◌<◌, ◌≤◌, ◌↔◌, ◌⊎◌, ℕ, List, [], Option, Some, None, slice_get, length, take}
 use Rattle.office_base.specs.declared.person.Person.{Person}
 use Rattle.office_base.specs.declared.person.ProgId.{ProgId}
-use Rattle.office_base.specs.declared.asks.Seat.{Seat}
+use Rattle.office_base.specs.declared.seat.Seat.{Seat}
 use Rattle.allocations.specs.Market.{Seeker, place_of, rank_of, holders}
 use Rattle.allocations.specs.Rule.{Rule}
 use Rattle.allocations.specs.Fair.{IsMarket, IsFair, IsBest}

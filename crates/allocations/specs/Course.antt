@@ -2,8 +2,8 @@
 use Rattle.office_base.specs.Lists.{IsAmong, IsSublist}
 use Rattle.std.specs.Prelude.{◌≡◌, ◌≢◌, ◌<◌, ◌≤◌, ◌+◌, ◌-◌, ◌↔◌, ◌⊎◌, ℕ, suc, List, [], ◌∷◌, Option, Some, None, slice_get, length, nat_lt}
 use Rattle.office_base.specs.declared.person.Person.{Person}
-use Rattle.office_base.specs.declared.asks.Seat.{Seat}
-use Rattle.office_base.specs.declared.step.StepKind.{StepKind}
+use Rattle.office_base.specs.declared.seat.Seat.{Seat}
+use Rattle.office_base.specs.declared.seat.SeatKind.{SeatKind}
 use Rattle.allocations.specs.Fair.{IsFair}
 use Rattle.allocations.specs.Market.{Seeker, place_of, rank_of, seat_at, those}
 use Rattle.allocations.specs.Rule.{Rule}
@@ -14,14 +14,14 @@ tried p seekers next = those (λ s n. nat_lt (place_of s.list p) n) seekers next
 
 -- the programme that the seeker tried last admits the seeker, from those who tried it
 abbrev pub IsHeld : Rule → ℕ → List Seeker → List ℕ → Seeker → ℕ → Type 0
-IsHeld rule count seekers next s n = (p : ℕ) × (p < count) × (n ≡ place_of s.list p + 1) × ((kind : StepKind) × rule p (tried p seekers next) s.person kind)
+IsHeld rule count seekers next s n = (p : ℕ) × (p < count) × (n ≡ place_of s.list p + 1) × ((kind : SeatKind) × rule p (tried p seekers next) s.person kind)
 
 -- So far, some of the seekers tried some of the programmes of their lists, and each programme that admits one was tried last.
 pub record IsUnderway (rule : Rule) (count : ℕ) (seekers : List Seeker) (next : List ℕ) : Type 0 where
   pub full : length next ≡ length seekers
   pub within : (i n : ℕ) (s : Seeker) → slice_get seekers i ≡ Some s → slice_get next i ≡ Some n → n ≤ length s.list
   -- a person whom a programme admits, from those who tried it, tried it last
-  pub last : (p i n : ℕ) (s : Seeker) (kind : StepKind) → p < count → slice_get seekers i ≡ Some s → slice_get next i ≡ Some n
+  pub last : (p i n : ℕ) (s : Seeker) (kind : SeatKind) → p < count → slice_get seekers i ≡ Some s → slice_get next i ≡ Some n
       → rule p (tried p seekers next) s.person kind → n ≡ place_of s.list p + 1
   -- no fair allocation seats anyone before the place tried last, nor there, unless the programme there admits the seeker
   pub no_better : (others : List (Option Seat)) (i n : ℕ) (s : Seeker) (seat : Option Seat) → IsFair rule count seekers others → slice_get seekers i ≡ Some s
@@ -36,7 +36,7 @@ IsSettled rule count seekers next s n = IsHeld rule count seekers next s n ⊎ (
 pub record AreSeatsOf (rule : Rule) (count : ℕ) (seekers : List Seeker) (next : List ℕ) (seats : List (Option Seat)) : Type 0 where
   pub full : length seats ≡ length seekers
   pub below : (i : ℕ) (seat : Seat) → slice_get seats i ≡ Some (Some seat) → seat.prog.0 < count
-  pub each : (p i : ℕ) (s : Seeker) (kind : StepKind) → p < count → slice_get seekers i ≡ Some s
+  pub each : (p i : ℕ) (s : Seeker) (kind : SeatKind) → p < count → slice_get seekers i ≡ Some s
       → rule p (tried p seekers next) s.person kind ↔ (slice_get seats i ≡ Some (Some (seat_at p kind)))
 
 -- the places of the lists that are left to try
@@ -82,4 +82,4 @@ HaveNotBegun next i = (j n : ℕ) → i ≤ j → slice_get next j ≡ Some n �
 -- after an offer the programme admits whom it admitted before, but for the one at this place
 abbrev pub KeepsAllBut : Rule → ℕ → List Seeker → List ℕ → List ℕ → ℕ → Type 0
 KeepsAllBut rule p seekers next after out = (j : ℕ) (t : Seeker) → slice_get seekers j ≡ Some t → j ≢ out
-    → ((kind : StepKind) × rule p (tried p seekers next) t.person kind) → (kind : StepKind) × rule p (tried p seekers after) t.person kind
+    → ((kind : SeatKind) × rule p (tried p seekers next) t.person kind) → (kind : SeatKind) × rule p (tried p seekers after) t.person kind

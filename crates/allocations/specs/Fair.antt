@@ -3,8 +3,8 @@ use Rattle.std.specs.Prelude.{◌≡◌, ◌≢◌, ◌<◌, ◌≤◌, ◌↔�
 use Rattle.office_base.specs.Lists.{Pairwise}
 use Rattle.office_base.specs.declared.person.Person.{Person}
 use Rattle.office_base.specs.declared.person.ProgId.{ProgId}
-use Rattle.office_base.specs.declared.asks.Seat.{Seat}
-use Rattle.office_base.specs.declared.step.StepKind.{StepKind}
+use Rattle.office_base.specs.declared.seat.Seat.{Seat}
+use Rattle.office_base.specs.declared.seat.SeatKind.{SeatKind}
 use Rattle.allocations.specs.Market.{Seeker, place_of, rank_of, seat_at, applies, applicants, holders, holders_and, wanting}
 use Rattle.allocations.specs.Rule.{Rule}
 
@@ -29,7 +29,7 @@ pub record IsAllocation (seekers : List Seeker) (seats : List (Option Seat)) : T
 -- Each programme admits, from those who apply to it, exactly those who hold a seat of it, under the steps of their seats.
 pub record IsFair (rule : Rule) (count : ℕ) (seekers : List Seeker) (seats : List (Option Seat)) : Type 0 where
   pub allocation : IsAllocation seekers seats
-  pub agrees : (p i : ℕ) (s : Seeker) (kind : StepKind) → p < count → slice_get seekers i ≡ Some s
+  pub agrees : (p i : ℕ) (s : Seeker) (kind : SeatKind) → p < count → slice_get seekers i ≡ Some s
       → rule p (applicants p seekers seats) s.person kind ↔ (slice_get seats i ≡ Some (Some (seat_at p kind)))
 
 -- A justified claim: the seeker at this place wants the programme more than their seat, or has no seat, and the
@@ -40,14 +40,14 @@ pub record HasClaim (rule : Rule) (seekers : List Seeker) (seats : List (Option 
   pub seat : Option Seat
   pub has : slice_get seats i ≡ Some seat
   pub before : place_of s.list p < rank_of s.list seat
-  pub kind : StepKind
+  pub kind : SeatKind
   pub admitted : rule p (holders_and p s.person.id.0 seekers seats) s.person kind
 
 -- Nobody has a justified claim, and each programme admits all who hold a seat of it, from these alone, under the steps of their seats.
 pub record IsJustified (rule : Rule) (count : ℕ) (seekers : List Seeker) (seats : List (Option Seat)) : Type 0 where
   pub allocation : IsAllocation seekers seats
   pub no_claim : (p i : ℕ) → p < count → HasClaim rule seekers seats i p → ⊥
-  pub keeps : (p i : ℕ) (s : Seeker) (kind : StepKind) → p < count → slice_get seekers i ≡ Some s
+  pub keeps : (p i : ℕ) (s : Seeker) (kind : SeatKind) → p < count → slice_get seekers i ≡ Some s
       → slice_get seats i ≡ Some (Some (seat_at p kind)) → rule p (holders p seekers seats) s.person kind
 
 -- the first allocation gives each seeker the same place of the list as the second, or an earlier one

@@ -2,8 +2,8 @@
 use Rattle.std.specs.Prelude.{◌≡◌, ◌<◌, ◌+◌, ℕ, Bool, List, [], ◌∷◌, Option, Some, None, length, nat_lt, nat_le, ◌&&◌, ◌||◌, ◌==◌, if◌then◌else◌, false}
 use Rattle.office_base.specs.declared.person.Person.{Person}
 use Rattle.office_base.specs.declared.person.ProgId.{ProgId}
-use Rattle.office_base.specs.declared.asks.Seat.{Seat}
-use Rattle.office_base.specs.declared.step.StepKind.{StepKind}
+use Rattle.office_base.specs.declared.seat.Seat.{Seat}
+use Rattle.office_base.specs.declared.seat.SeatKind.{SeatKind}
 
 -- one who seeks a seat: the person, and the programmes wanted in this round, the most preferred first
 pub record Seeker : Type 0 where
@@ -21,7 +21,7 @@ rank_of list None = length list
 rank_of list (Some seat) = place_of list seat.prog.0
 
 -- the seat of a programme under a step
-abbrev pub seat_at : ℕ → StepKind → Seat
+abbrev pub seat_at : ℕ → SeatKind → Seat
 seat_at p kind = record { prog = record { 0 = p }; step = kind }
 
 -- the list holds the programme
