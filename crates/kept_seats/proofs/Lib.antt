@@ -1,0 +1,11 @@
+pub mod Persons
+pub mod Kept
+pub mod Worth
+pub mod Fewer
+pub mod Counts
+pub mod Newly
+pub mod Leaving
+pub mod Orders
+pub mod Today
+pub mod Offers
+pub mod Ended
