@@ -1,0 +1,6 @@
+use Rattle.kept_seats.proofs.Orders as orders
+use Rattle.kept_laws.specs.Laws.{MayApplyTo, by_steps}
+use Rattle.kept_laws.proofs.laws.orders_seats.Goals as goal
+
+pub returns : goal.returns
+returns c = λ version seats sound. orders.one_seat_for_each_order (by_steps version seats) (MayApplyTo seats) (c.chosen_well.ensures version seats sound) (c.no_fewer_from_more.ensures version seats sound)
