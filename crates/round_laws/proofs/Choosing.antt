@@ -7,7 +7,11 @@ use Rattle.std.proofs.lemmas.Option.{slice_get_past}
 use Rattle.office_base.specs.Person.{IsList}
 use Rattle.office_base.specs.declared.step.StepKind.{StepKind}
 use Rattle.open_then_category.specs.Laws.{ChosenWell, GrowsWithSeats, NoFewerFromMore}
-use Rattle.rounds.specs.Rule.{ProgrammesAdmitNoFewer, ProgrammesChooseWell, ProgrammesGrow}
+use Rattle.rounds.specs.Rule.{MayApplyIn, ProgrammesAdmitNoFewer, ProgrammesChooseWell, ProgrammesGrow, StepsChooseWell, steps_of}
+use Rattle.office_base.specs.declared.person.ListId.{ListId}
+use Rattle.programme_lists.specs.Chosen.{AreApplicants}
+use Rattle.kept_seats.proofs.Kept as kept
+use Rattle.kept_seats.proofs.Fewer as kept_fewer
 use Rattle.seat_matrix.specs.Matrix.{AreSeats, SeatTable, first_list, list_in, seats_in, steps_in}
 use Rattle.seat_matrix.specs.Seats.{AreProgrammeSeats, IsSeated, is_dereserved, no_seating, no_seatings, of_step}
 use Rattle.seat_matrix.specs.declared.seats.Seatings.{Seatings}
@@ -40,11 +44,19 @@ sound_all table seats p = elim (cases_lt p (length table.programmes)) [
   }
 ]
 
+pub steps_well : ChosenWell → StepsChooseWell
+steps_well well version table seats = well version (λ p. seats_in table p) (sound_all table seats)
+
 pub choose_well : ChosenWell → ProgrammesChooseWell
-choose_well well version table seats = well version (λ p. seats_in table p) (sound_all table seats)
+choose_well well version guaranteed table seats = kept.choose_well guaranteed (steps_of version table) (MayApplyIn table) (steps_well well version table seats)
 
-pub admit_no_fewer : NoFewerFromMore → ProgrammesAdmitNoFewer
-admit_no_fewer fewer version table seats = fewer version (λ p. seats_in table p) (sound_all table seats)
+pub admit_no_fewer : ChosenWell → NoFewerFromMore → ProgrammesAdmitNoFewer
+admit_no_fewer well fewer version guaranteed table seats =
+    kept_fewer.admit_no_fewer guaranteed (steps_of version table) (MayApplyIn table) (steps_well well version table seats) (λ p people may. may.distinct)
+    (fewer version (λ p. seats_in table p) (sound_all table seats))
 
-pub grow : GrowsWithSeats → ProgrammesGrow
-grow grows version table more seats seats' raised = grows version (λ p. seats_in table p) (λ p. seats_in more p) (sound_all table seats) (sound_all more seats') raised.seats
+pub grow : ChosenWell → GrowsWithSeats → ProgrammesGrow
+grow well grows version guaranteed wider table more sure seats seats' raised =
+    kept.grow guaranteed wider (steps_of version table) (steps_of version more) (MayApplyIn table)
+    (λ p people x may. (steps_well well version more seats').decided p people x (subst (λ (list : ListId). AreApplicants list people) (sym (raised.seats p).list) may))
+    sure (grows version (λ p. seats_in table p) (λ p. seats_in more p) (sound_all table seats) (sound_all more seats') raised.seats)

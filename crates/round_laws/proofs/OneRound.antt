@@ -77,11 +77,11 @@ one_programme version seats people a b laws sound may first second =
 -- ---- rounds
 
 pub one_round : ChooseOnce → OneRound
-one_round laws version number table people lists seeks a b seats entrants first second =
-    let rule = rule_of version table in
+one_round laws version number guaranteed table people lists seeks a b seats entrants first second =
+    let rule = rule_of version guaranteed table in
     let seekers = seekers_of table people lists seeks in
     let may_seek = market table people lists seeks seats entrants in
-    let well = laws.well version table seats in
+    let well = laws.well version guaranteed table seats in
     let numbers : a.number ≡ b.number = first.number ∙ sym second.number in
     let sought : a.seeks ≡ b.seeks = first.sought ∙ sym second.sought in
     let seated : a.seats ≡ b.seats = one_best rule (MayApplyIn table) (length table.programmes) seekers a.seats b.seats may_seek well first.best second.best in

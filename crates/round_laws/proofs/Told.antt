@@ -21,13 +21,14 @@ use Rattle.seeks.specs.Seek.{is_beside, is_left, left_from, seek_leaves}
 use Rattle.seeks.specs.declared.seek.Seek.{Seek}
 use Rattle.seeks.specs.declared.seek.Seek.TheVariants.{Whole, UpTo, Within, Only, Nothing}
 use Rattle.seeks.proofs.Left.{leaves_same, left_nothing, left_up_to}
+use Rattle.kept_seats.specs.Kept.{Guarantees}
 use Rattle.rounds.specs.Rule.{MayApplyIn, ProgrammesAdmitNoFewer, ProgrammesChooseWell, ProgrammesGrow, rule_of, seekers_of}
 use Rattle.rounds.proofs.Entrants.{entered, market}
 use Rattle.round_laws.specs.Laws.{AreOtherwise, FairRoundsSeatAlike, IsUpTo, MoreSeatsHurtNobody, SomeSeekNothing, TruthIsBest, WiderIsNoWorse}
 
 pub seat_alike : ProgrammesChooseWell → ProgrammesAdmitNoFewer → FairRoundsSeatAlike
-seat_alike well fewer version table people lists seeks seats others are entrants fair fair' =
-    fair_seat_alike (rule_of version table) (MayApplyIn table) (well version table are) (fewer version table are) (length table.programmes) (seekers_of table people lists seeks) seats others
+seat_alike well fewer version guaranteed table people lists seeks seats others are entrants fair fair' =
+    fair_seat_alike (rule_of version guaranteed table) (MayApplyIn table) (well version guaranteed table are) (fewer version guaranteed table are) (length table.programmes) (seekers_of table people lists seeks) seats others
     (market table people lists seeks are entrants) fair fair'
 
 -- ---- the seekers, when one submits another list and another seek
@@ -72,8 +73,8 @@ tells_otherwise table people lists told seeks sought i h = record {
 }
 
 pub truth : ProgrammesChooseWell → ProgrammesAdmitNoFewer → TruthIsBest
-truth well fewer version table people lists told seeks sought seats others i s seat other are entrants entrants' otherwise best fair there has has' =
-    truth_is_best (rule_of version table) (MayApplyIn table) (well version table are) (fewer version table are) (length table.programmes) i (seekers_of table people lists seeks)
+truth well fewer version guaranteed table people lists told seeks sought seats others i s seat other are entrants entrants' otherwise best fair there has has' =
+    truth_is_best (rule_of version guaranteed table) (MayApplyIn table) (well version guaranteed table are) (fewer version guaranteed table are) (length table.programmes) i (seekers_of table people lists seeks)
     (seekers_of table people told sought) seats others s seat other (market table people lists seeks are entrants) (market table people told sought are entrants')
     (tells_otherwise table people lists told seeks sought i otherwise) best fair there has has'
 
@@ -125,7 +126,7 @@ leaves_by table people lists seeks i s list seek there at at' =
     e.leaves ∙ (ap (λ z. seek_leaves table z e.list) two ∙ ap (λ l. seek_leaves table seek l) one)
 
 pub wider : ProgrammesChooseWell → ProgrammesAdmitNoFewer → WiderIsNoWorse
-wider well fewer version table people lists seeks sought seats others i k list seek seat other are entrants otherwise at sought_at sought_at' up best fair has has' =
+wider well fewer version guaranteed table people lists seeks sought seats others i k list seek seat other are entrants otherwise at sought_at sought_at' up best fair has has' =
     let seekers = seekers_of table people lists seeks in
     let told = seekers_of table people lists sought in
     let size = best.fair.allocation.full in
@@ -135,7 +136,7 @@ wider well fewer version table people lists seeks sought seats others i k list s
     let mine = leaves_by table people lists seeks i s.0 list (UpTo k) s.1 at sought_at in
     let his = leaves_by table people lists sought i t.0 list seek t.1 at sought_at' in
     let front = mine ∙ left_up_to table list k 0 (suc k) list (omega arith) in
-    all_of_the_front_is_best (rule_of version table) (MayApplyIn table) (well version table are) (fewer version table are) (length table.programmes) i (suc k) seekers told seats others s.0 t.0 list
+    all_of_the_front_is_best (rule_of version guaranteed table) (MayApplyIn table) (well version guaranteed table are) (fewer version guaranteed table are) (length table.programmes) i (suc k) seekers told seats others s.0 t.0 list
     seat other (market table people lists seeks are entrants) (market table people lists sought are entrants) (tells_otherwise table people lists lists seeks sought i otherwise) best fair
     s.1 t.1 front (λ p wanted.
     let stands = subst (λ l. Stands p l) his wanted in
@@ -144,10 +145,10 @@ wider well fewer version table people lists seeks sought seats others i k list s
 -- ---- more seats
 
 -- those who may apply by one matrix may by another of the same programmes
-may_apply_same : (version : ℕ) (table more : SeatTable) → more.programmes ≡ table.programmes → ChoosesWell (rule_of version more) (MayApplyIn more)
-    → ChoosesWell (rule_of version more) (MayApplyIn table)
-may_apply_same version table more same well =
-    subst (λ (programmes : List (List ℕ × Home)). ChoosesWell (rule_of version more) (λ p. AreApplicants (unwrap_or (option_map (λ held. held.1.list) (slice_get programmes p)) first_list)))
+may_apply_same : (version : ℕ) (wider : Guarantees) (table more : SeatTable) → more.programmes ≡ table.programmes → ChoosesWell (rule_of version wider more) (MayApplyIn more)
+    → ChoosesWell (rule_of version wider more) (MayApplyIn table)
+may_apply_same version wider table more same well =
+    subst (λ (programmes : List (List ℕ × Home)). ChoosesWell (rule_of version wider more) (λ p. AreApplicants (unwrap_or (option_map (λ held. held.1.list) (slice_get programmes p)) first_list)))
     same well
 
 some_leave : (table more : SeatTable) (people : List Person) (lists : List (List ProgId)) (seeks later : List Seek) → more.programmes ≡ table.programmes → SomeSeekNothing seeks later
@@ -172,11 +173,11 @@ some_leave table more people lists seeks later same h = record {
 }
 
 pub more_seats : ProgrammesChooseWell → ProgrammesGrow → MoreSeatsHurtNobody
-more_seats well grows version table more people lists seeks later seats others i list seek seat other are more_are raised entrants h at sought_at sought_at' fair best has has' =
+more_seats well grows version guaranteed wider table more people lists seeks later seats others i list seek seat other sure are more_are raised entrants h at sought_at sought_at' fair best has has' =
     let seekers = seekers_of table people lists seeks in
     let next = seekers_of more people lists later in
     let count : length more.programmes ≡ length table.programmes = ap (λ l. length l) raised.programmes in
-    let best' = subst (λ n. IsBest (rule_of version more) n next others) count best in
+    let best' = subst (λ n. IsBest (rule_of version wider more) n next others) count best in
     let size = fair.allocation.full in
     let size' = best.fair.allocation.full in
     let s = there_is seekers i (let less = slice_get_within seats i seat has in omega (arith, less, size)) in
@@ -184,7 +185,7 @@ more_seats well grows version table more people lists seeks later seats others i
     let mine = leaves_by table people lists seeks i s.0 list seek s.1 at sought_at in
     let his = leaves_by more people lists later i t.0 list seek t.1 at sought_at' in
     let same : t.0.list ≡ s.0.list = his ∙ (leaves_same table more seek list raised.programmes ∙ sym mine) in
-    let no_worse = hurts_nobody (rule_of version table) (rule_of version more) (MayApplyIn table) (well version table are) (may_apply_same version table more raised.programmes (well version more more_are))
-    (grows version table more are more_are raised) (length table.programmes) i seekers next seats others s.0 t.0 seat other (market table people lists seeks are entrants)
+    let no_worse = hurts_nobody (rule_of version guaranteed table) (rule_of version wider more) (MayApplyIn table) (well version guaranteed table are) (may_apply_same version wider table more raised.programmes (well version wider more more_are))
+    (grows version guaranteed wider table more sure are more_are raised) (length table.programmes) i seekers next seats others s.0 t.0 seat other (market table people lists seeks are entrants)
     (some_leave table more people lists seeks later raised.programmes h) fair best' s.1 t.1 same has has' in
     subst (λ l. rank_of l other ≤ rank_of l seat) mine no_worse

@@ -1,5 +1,5 @@
 // The laws of rounds, over their definitions alone. Each is the contract of a function that does nothing.
-ghost use Rattle.rounds.specs.Rule.{ProgrammesAdmitNoFewer, ProgrammesChooseWell, ProgrammesGrow};
+ghost use Rattle.rounds.specs.Rule.{ProgrammesAdmitNoFewer, ProgrammesChooseWell, ProgrammesGrow, StepsChooseWell};
 ghost use Rattle.round_laws.specs.Laws.{Enter, FairRoundsSeatAlike, FairWithoutClaims, Market, MoreSeatsHurtNobody, NobodyFalls, OneRound, TruthIsBest, WiderIsNoWorse};
 
 /// The people of a season may enter its rounds, by any matrix of its programmes.
@@ -19,10 +19,18 @@ pub fn choose_well()
     open_then_category::laws::chosen_well();
 }
 
+/// So they choose before anybody is kept beyond the seats.
+pub fn steps_choose_well()
+    ensures { StepsChooseWell }
+{
+    open_then_category::laws::chosen_well();
+}
+
 /// From more people they admit no fewer.
 pub fn admit_no_fewer()
     ensures { ProgrammesAdmitNoFewer }
 {
+    open_then_category::laws::chosen_well();
     open_then_category::laws::no_fewer_from_more();
 }
 
@@ -30,6 +38,7 @@ pub fn admit_no_fewer()
 pub fn grow()
     ensures { ProgrammesGrow }
 {
+    open_then_category::laws::chosen_well();
     open_then_category::laws::grows_with_seats();
 }
 

@@ -1,1 +1,2 @@
 pub mod Entrants
+pub mod Nobody

@@ -1,22 +1,41 @@
 -- Programmes as a rule, and those who enter a round as its seekers.
-use Rattle.std.specs.Prelude.{◌≡◌, ◌≢◌, ◌<◌, ℕ, List, [], ◌∷◌, Option, Some, None, length, slice_get, IsSome}
+use Rattle.std.specs.Prelude.{◌≡◌, ◌≢◌, ◌<◌, ◌==◌, ℕ, Bool, false, List, [], ◌∷◌, Option, Some, None, length, slice_get, IsSome}
 use Rattle.std.specs.List.{AllByRecursion}
 use Rattle.office_base.specs.Lists.{Pairwise}
-use Rattle.office_base.specs.Person.{IsList, IsTraitSet, number_in}
+use Rattle.office_base.specs.Person.{IsList, IsTraitSet, at_person, number_in}
 use Rattle.office_base.specs.declared.person.ListId.{ListId}
 use Rattle.office_base.specs.declared.person.Person.{Person}
 use Rattle.office_base.specs.declared.person.ProgId.{ProgId}
 use Rattle.allocations.specs.Market.{Seeker}
 use Rattle.allocations.specs.Rule.{Rule, AdmitsNoFewer, ChoosesWell, Grows}
+use Rattle.kept_seats.specs.Kept.{Guarantees, GuaranteesMore, StepRule, with_kept}
 use Rattle.seat_matrix.specs.Matrix.{AreSeats, SeatTable, list_in, seats_in}
 use Rattle.seat_matrix.specs.Seats.{HaveMoreSeats}
 use Rattle.programme_lists.specs.Chosen.{AdmitsUnder, AreApplicants}
 use Rattle.seeks.specs.Seek.{IsWithinList, seek_leaves}
 use Rattle.seeks.specs.declared.seek.Seek.{Seek}
 
--- a programme of the matrix admits as the choice of a programme says, in this bundle version
-abbrev pub rule_of : ℕ → SeatTable → Rule
-rule_of version table p = AdmitsUnder version (seats_in table p)
+-- a programme of the matrix chooses as the choice of a programme says, in this bundle version
+abbrev pub steps_of : ℕ → SeatTable → StepRule
+steps_of version table p = AdmitsUnder version (seats_in table p)
+
+-- and admits whom it chooses, and beyond its seats whom it keeps
+abbrev pub rule_of : ℕ → Guarantees → SeatTable → Rule
+rule_of version guaranteed table = with_kept guaranteed (steps_of version table)
+
+-- it is this programme
+abbrev pub is_programme : ℕ → Option (Option ProgId) → Bool
+is_programme p None = false
+is_programme p (Some None) = false
+is_programme p (Some (Some prog)) = prog.0 == p
+
+-- who is guaranteed a seat: each of the people, of the programme that stands at the person's place, if there is one
+abbrev pub guarantees : List Person → List (Option ProgId) → Guarantees
+guarantees people guaranteed p person = is_programme p (at_person person.id.0 people guaranteed)
+
+-- nobody is guaranteed a seat
+abbrev pub nobody : Guarantees
+nobody p person = false
 
 -- the people may apply to the programme together
 abbrev pub MayApplyIn : SeatTable → ℕ → List Person → Type 0
@@ -51,11 +70,15 @@ seekers_of table (person ∷ people) (list ∷ lists) (seek ∷ seeks) = record 
 
 -- the programmes of every matrix choose well
 abbrev pub ProgrammesChooseWell : Type 0
-ProgrammesChooseWell = (version : ℕ) (table : SeatTable) → AreSeats table → ChoosesWell (rule_of version table) (MayApplyIn table)
+ProgrammesChooseWell = (version : ℕ) (guaranteed : Guarantees) (table : SeatTable) → AreSeats table → ChoosesWell (rule_of version guaranteed table) (MayApplyIn table)
+
+-- and so they choose before anybody is kept beyond the seats
+abbrev pub StepsChooseWell : Type 0
+StepsChooseWell = (version : ℕ) (table : SeatTable) → AreSeats table → ChoosesWell (steps_of version table) (MayApplyIn table)
 
 -- and admit no fewer from more people
 abbrev pub ProgrammesAdmitNoFewer : Type 0
-ProgrammesAdmitNoFewer = (version : ℕ) (table : SeatTable) → AreSeats table → AdmitsNoFewer (rule_of version table) (MayApplyIn table)
+ProgrammesAdmitNoFewer = (version : ℕ) (guaranteed : Guarantees) (table : SeatTable) → AreSeats table → AdmitsNoFewer (rule_of version guaranteed table) (MayApplyIn table)
 
 -- The second matrix has the same programmes and protections, and no fewer seats.
 pub record IsRaised (table more : SeatTable) : Type 0 where
@@ -64,4 +87,5 @@ pub record IsRaised (table more : SeatTable) : Type 0 where
 
 -- and with more seats, for the same protections, they admit everybody whom they admitted before
 abbrev pub ProgrammesGrow : Type 0
-ProgrammesGrow = (version : ℕ) (table more : SeatTable) → AreSeats table → AreSeats more → IsRaised table more → Grows (rule_of version table) (rule_of version more) (MayApplyIn table)
+ProgrammesGrow = (version : ℕ) (guaranteed wider : Guarantees) (table more : SeatTable) → GuaranteesMore guaranteed wider → AreSeats table → AreSeats more → IsRaised table more
+    → Grows (rule_of version guaranteed table) (rule_of version wider more) (MayApplyIn table)

@@ -5,9 +5,9 @@ use Rattle.rounds.proofs.Entrants.{market}
 use Rattle.round_laws.proofs.laws.fair_without_claims.Goals as goal
 
 pub returns : goal.returns
-returns c = λ version table people lists seeks seats are entrants.
+returns c = λ version guaranteed table people lists seeks seats are entrants.
     let enter = market table people lists seeks are entrants in
-    let well = c.choose_well.ensures version table are in (
-      fair_justified (rule_of version table) (MayApplyIn table) (length table.programmes) (seekers_of table people lists seeks) seats enter well,
-      justified_fair (rule_of version table) (MayApplyIn table) (length table.programmes) (seekers_of table people lists seeks) seats enter well,
+    let well = c.choose_well.ensures version guaranteed table are in (
+      fair_justified (rule_of version guaranteed table) (MayApplyIn table) (length table.programmes) (seekers_of table people lists seeks) seats enter well,
+      justified_fair (rule_of version guaranteed table) (MayApplyIn table) (length table.programmes) (seekers_of table people lists seeks) seats enter well,
     )
