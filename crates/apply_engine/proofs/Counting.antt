@@ -2,7 +2,7 @@
 use Rattle.std.proofs.Common.{◌≡◌, ◌≤◌, ◌+◌, inl, inr, ℕ, suc, List, [], ◌∷◌, Option, Some, None, length, arith, refl}
 use Rattle.std.specs.Prelude.{slice_get, sum}
 use Rattle.std.proofs.lemmas.List.Sums.{sum_by-cons}
-use Rattle.office_base.specs.declared.asks.Seat.{Seat}
+use Rattle.office_base.specs.declared.seat.Seat.{Seat}
 use Rattle.allocations.specs.Course.{AreSeatsOf, IsSettled, IsUnderway, places, places_left}
 use Rattle.allocations.specs.Market.{Seeker}
 use Rattle.allocations.specs.Rule.{Rule}

@@ -1,6 +1,6 @@
 -- The applications begin with nobody admitted, and end.
 use Rattle.std.proofs.Common.{◌≡◌, ◌<◌, ◌≤◌, ◌+◌, inl, ℕ, List, [], ◌∷◌, Some, length, arith, refl, sym, ap, ◌∙◌, subst, nat_lt}
-use Rattle.std.specs.Prelude.{slice_get, replicate, sum}
+use Rattle.std.specs.Prelude.{Option, slice_get, replicate, sum}
 use Rattle.std.proofs.lemmas.Bool.{ltb-true}
 use Rattle.std.proofs.lemmas.Option.{slice_get_within}
 use Rattle.std.proofs.lemmas.List.{length-replicate}
@@ -17,13 +17,13 @@ use Rattle.open_then_category.proofs.Handed.{nobody_is}
 use Rattle.open_then_category.specs.declared.kept_lists.Tried.{Tried}
 use Rattle.programme_lists.specs.Chosen.{ChoosesFrom, everybody}
 use Rattle.programme_lists.specs.Programme.{Admissions}
-use Rattle.rounds.specs.Rule.{MayApplyIn, rule_of}
+use Rattle.rounds.specs.Rule.{MayApplyIn}
 use Rattle.round_laws.proofs.Everybody.{admitted_is_there}
 use Rattle.seat_matrix.specs.Matrix.{SeatTable, seats_in}
 use Rattle.allocations.proofs.Best.{zeros_at}
-use Rattle.apply_engine.specs.Engine.{AreBegun, AreSettledBefore, AreTallied, AreUntried, Enters, HasApplied, HasRun, IsSet, IsSettledTo, Setting, seekers_in}
+use Rattle.apply_engine.specs.Engine.{AreBegun, AreSettledBefore, AreTallied, AreUntried, Enters, HasApplied, HasRun, IsSet, IsSettledTo, Setting, seekers_in, rule_in}
 use Rattle.apply_engine.proofs.Counting.{tried_and_left}
-use Rattle.apply_engine.proofs.Setting.{chooses_well, length_with}
+use Rattle.apply_engine.proofs.Setting.{chooses_well_in, length_with}
 use Rattle.apply_engine.proofs.Tallies.{untried}
 
 -- a list of which nobody is one is empty
@@ -53,9 +53,9 @@ choice_from_none over p set below may =
     subst (λ a. ChoosesFrom over.version (seats_in over.table p) [] a) (is_nobody some.0 none) some.1
 
 -- The applications begin.
-pub enters : (over : Setting) (version : ℕ) (table : SeatTable) (people : List Person) (lists : List (List ProgId)) (next : List ℕ) (states : List ProgrammeKept)
-    → Enters over version table people lists → AreBegun version table states → next ≡ replicate (length lists) 0 → AreSettledBefore over people lists next states 0
-enters over version table people lists next states e begun zeros =
+pub enters : (over : Setting) (version : ℕ) (table : SeatTable) (people : List Person) (lists : List (List ProgId)) (guaranteed : List (Option ProgId)) (next : List ℕ) (states : List ProgrammeKept)
+    → Enters over version table people lists guaranteed → AreBegun version table states → next ≡ replicate (length lists) 0 → AreSettledBefore over people lists guaranteed next states 0
+enters over version table people lists guaranteed next states e begun zeros =
     let people_is : over.people ≡ people = ap (λ (o : Setting). o.people) e.over_is in
     let lists_is : over.lists ≡ lists = ap (λ (o : Setting). o.lists) e.over_is in
     let table_is : over.table ≡ table = ap (λ (o : Setting). o.table) e.over_is in
@@ -63,11 +63,12 @@ enters over version table people lists next states e begun zeros =
     let none : (i n : ℕ) → slice_get next i ≡ Some n → n ≡ 0 = λ i n at. zeros_at (length lists) i n (subst (λ l. slice_get l i ≡ Some n) zeros at) in
     let size = length_with over.people over.lists e.set_is.full in
     let full : length next ≡ length (seekers_in over) = (let a = ap length zeros ∙ length-replicate (length lists) 0 in let b = ap length lists_is in let d = e.set_is.full in omega (arith, a, b, d, size)) in
-    let well = chooses_well over.version over.table e.set_is.laws e.set_is.seats in
-    let underway = begins (rule_of over.version over.table) (MayApplyIn over.table) (length over.table.programmes) (seekers_in over) next e.set_is.market well full none in
+    let well = chooses_well_in over e.set_is.laws e.set_is.seats in
+    let underway = begins (rule_in over) (MayApplyIn over.table) (length over.table.programmes) (seekers_in over) next e.set_is.market well full none in
     record {
       people_is = people_is;
       lists_is = lists_is;
+      guaranteed_is = ap (λ (o : Setting). o.guaranteed) e.over_is;
       set_is = e.set_is;
       going = record {
         underway = underway;
@@ -76,7 +77,7 @@ enters over version table people lists next states e begun zeros =
           each = λ p state at.
               let is = begun.each p state at in
               let below : p < length over.table.programmes = (let less = slice_get_within states p state at in let f = begun.full in let g = ap (λ (t : SeatTable). length t.programmes) table_is in omega (arith, less, f, g)) in
-              let may = tried_may (rule_of over.version over.table) (MayApplyIn over.table) (length over.table.programmes) p (seekers_in over) next e.set_is.market well below full underway.within in
+              let may = tried_may (rule_in over) (MayApplyIn over.table) (length over.table.programmes) p (seekers_in over) next e.set_is.market well below full underway.within in
               let nobody_tried = none_tried p (seekers_in over) next none in
               let choice = choice_from_none over p e.set_is below (subst (λ people. MayApplyIn over.table p people) nobody_tried may) in
               record {
@@ -92,17 +93,17 @@ enters over version table people lists next states e begun zeros =
     }
 
 -- and nobody came to any programme
-pub enters_untried : (over : Setting) (version : ℕ) (table : SeatTable) (people : List Person) (lists : List (List ProgId)) (next : List ℕ) (tallies : List Tried)
-    → Enters over version table people lists → AreUntried table tallies → next ≡ replicate (length lists) 0 → AreTallied over next tallies
-enters_untried over version table people lists next tallies e begun zeros =
+pub enters_untried : (over : Setting) (version : ℕ) (table : SeatTable) (people : List Person) (lists : List (List ProgId)) (guaranteed : List (Option ProgId)) (next : List ℕ) (tallies : List Tried)
+    → Enters over version table people lists guaranteed → AreUntried table tallies → next ≡ replicate (length lists) 0 → AreTallied over next tallies
+enters_untried over version table people lists guaranteed next tallies e begun zeros =
     let table_is : over.table ≡ table = ap (λ (o : Setting). o.table) e.over_is in
     let none : (i n : ℕ) → slice_get next i ≡ Some n → n ≡ 0 = λ i n at. zeros_at (length lists) i n (subst (λ l. slice_get l i ≡ Some n) zeros at) in
     untried over next tallies (subst (λ (t : SeatTable). AreUntried t tallies) (sym table_is) begun) (λ p. none_tried p (seekers_in over) next none)
 
 -- And end.
-pub ended : (over : Setting) (version : ℕ) (table : SeatTable) (people : List Person) (lists : List (List ProgId)) (before next : List ℕ) (states : List ProgrammeKept) (tallies : List Tried) (steps_before steps : ℕ)
-    → Enters over version table people lists → HasApplied over before next states (length people) steps_before steps → AreTallied over next tallies → HasRun over next states tallies
-ended over version table people lists before next states tallies steps_before steps e h tallied = record {
+pub ended : (over : Setting) (version : ℕ) (table : SeatTable) (people : List Person) (lists : List (List ProgId)) (guaranteed : List (Option ProgId)) (before next : List ℕ) (states : List ProgrammeKept) (tallies : List Tried) (steps_before steps : ℕ)
+    → Enters over version table people lists guaranteed → HasApplied over before next states (length people) steps_before steps → AreTallied over next tallies → HasRun over next states tallies
+ended over version table people lists guaranteed before next states tallies steps_before steps e h tallied = record {
   set_is = e.set_is;
   ended = record {
     underway = h.going.underway;
@@ -120,9 +121,9 @@ run_again over next next2 states states2 tallies tallies2 a b d run =
     (subst (λ (l : List ProgrammeKept). HasRun over next l tallies2) (sym b) (subst (λ (l : List Tried). HasRun over next states l) (sym d) run))
 
 -- at first all places are left to try
-left_first : (over : Setting) (version : ℕ) (table : SeatTable) (people : List Person) (lists : List (List ProgId)) (before : List ℕ) → Enters over version table people lists
+left_first : (over : Setting) (version : ℕ) (table : SeatTable) (people : List Person) (lists : List (List ProgId)) (guaranteed : List (Option ProgId)) (before : List ℕ) → Enters over version table people lists guaranteed
     → before ≡ replicate (length lists) 0 → places_left (seekers_in over) before ≡ places (seekers_in over)
-left_first over version table people lists before e zeros =
+left_first over version table people lists guaranteed before e zeros =
     let lists_is : over.lists ≡ lists = ap (λ (o : Setting). o.lists) e.over_is in
     let none : (i n : ℕ) → slice_get before i ≡ Some n → n ≡ 0 = λ i n at. zeros_at (length lists) i n (subst (λ l. slice_get l i ≡ Some n) zeros at) in
     let size = length_with over.people over.lists e.set_is.full in
@@ -130,18 +131,18 @@ left_first over version table people lists before e zeros =
     left_at_first (seekers_in over) before full none
 
 -- The steps are no more than there are places,
-pub at_most : (over : Setting) (version : ℕ) (table : SeatTable) (people : List Person) (lists : List (List ProgId)) (before next : List ℕ) (states : List ProgrammeKept) (last steps_before steps : ℕ)
-    → Enters over version table people lists → before ≡ replicate (length lists) 0 → HasApplied over before next states last steps_before steps → steps ≤ steps_before + places (seekers_in over)
-at_most over version table people lists before next states last steps_before steps e zeros h =
-    let all = left_first over version table people lists before e zeros in
+pub at_most : (over : Setting) (version : ℕ) (table : SeatTable) (people : List Person) (lists : List (List ProgId)) (guaranteed : List (Option ProgId)) (before next : List ℕ) (states : List ProgrammeKept) (last steps_before steps : ℕ)
+    → Enters over version table people lists guaranteed → before ≡ replicate (length lists) 0 → HasApplied over before next states last steps_before steps → steps ≤ steps_before + places (seekers_in over)
+at_most over version table people lists guaranteed before next states last steps_before steps e zeros h =
+    let all = left_first over version table people lists guaranteed before e zeros in
     let cost = h.cost in
     omega (arith, all, cost)
 
 -- and as many as were tried.
-pub exactly : (over : Setting) (version : ℕ) (table : SeatTable) (people : List Person) (lists : List (List ProgId)) (before next : List ℕ) (states : List ProgrammeKept) (last steps_before steps : ℕ)
-    → Enters over version table people lists → before ≡ replicate (length lists) 0 → HasApplied over before next states last steps_before steps → steps ≡ steps_before + sum next
-exactly over version table people lists before next states last steps_before steps e zeros h =
-    let all = left_first over version table people lists before e zeros in
+pub exactly : (over : Setting) (version : ℕ) (table : SeatTable) (people : List Person) (lists : List (List ProgId)) (guaranteed : List (Option ProgId)) (before next : List ℕ) (states : List ProgrammeKept) (last steps_before steps : ℕ)
+    → Enters over version table people lists guaranteed → before ≡ replicate (length lists) 0 → HasApplied over before next states last steps_before steps → steps ≡ steps_before + sum next
+exactly over version table people lists guaranteed before next states last steps_before steps e zeros h =
+    let all = left_first over version table people lists guaranteed before e zeros in
     let both = tried_and_left (seekers_in over) next h.going.underway.full h.going.underway.within in
     let cost = h.cost in
     omega (arith, all, both, cost)

@@ -14,24 +14,25 @@ use Rattle.placements.proofs.Ranks.{any_among, any_all, among_sublist}
 use Rattle.allocations.specs.Course.{IsUnderway, IsWith as IsWithOne, MayTry, tried}
 use Rattle.allocations.specs.Fair.{IsMarket}
 use Rattle.allocations.specs.Market.{Seeker}
-use Rattle.allocations.specs.Rule.{Admits, ChoosesWell, Refuses}
+use Rattle.allocations.specs.Rule.{Admits, ChoosesWell, Refuses, Rule}
 use Rattle.allocations.proofs.Course.{tried_may, tried_with, get_set_same}
 use Rattle.allocations.proofs.Settled.{other_programmes}
 use Rattle.open_then_category.specs.State.{ProgrammeKept, admissions_of}
 use Rattle.programme_lists.specs.Chosen.{ChoosesFrom, IsAdmitted, IsRefused, everybody}
 use Rattle.programme_lists.specs.Programme.{Admissions, admitted_by}
-use Rattle.rounds.specs.Rule.{MayApplyIn, rule_of}
+use Rattle.kept_seats.proofs.Kept.{widens}
+use Rattle.rounds.specs.Rule.{MayApplyIn, steps_of}
 use Rattle.seat_matrix.specs.Matrix.{AreSeats, SeatTable, list_in, seats_in}
 use Rattle.apply_engine.specs.Engine.{AllShow, AreLawful, Show}
 
 -- ---- what a state shows is what the rule says
 
 pub shown_admits : (version : ℕ) (table : SeatTable) (p : ℕ) (people : List Person) (admissions : Admissions) (person : Person) → ChoosesFrom version (seats_in table p) people admissions
-    → IsAdmitted admissions person → Admits (rule_of version table) p people person
+    → IsAdmitted admissions person → Admits (steps_of version table) p people person
 shown_admits version table p people admissions person choice admitted = (admitted.0, (admissions, choice, admitted.1))
 
 pub rule_shows : (version : ℕ) (table : SeatTable) (p : ℕ) (people : List Person) (admissions : Admissions) (person : Person) (kind : StepKind) → AreLawful → AreSeats table
-    → p < length table.programmes → MayApplyIn table p people → ChoosesFrom version (seats_in table p) people admissions → rule_of version table p people person kind
+    → p < length table.programmes → MayApplyIn table p people → ChoosesFrom version (seats_in table p) people admissions → steps_of version table p people person kind
     → IsAmong person (admitted_by admissions kind)
 rule_shows version table p people admissions person kind laws seats below may choice rule =
     let one = laws.one version (seats_in table p) people rule.0 admissions (seats.sound p below) may rule.1 choice in
@@ -39,7 +40,7 @@ rule_shows version table p people admissions person kind laws seats below may ch
 
 pub refused_shows : (version : ℕ) (table : SeatTable) (p : ℕ) (people : List Person) (admissions : Admissions) (person : Person) → AreLawful → AreSeats table
     → p < length table.programmes → MayApplyIn table p people → ChoosesFrom version (seats_in table p) people admissions → IsRefused admissions person
-    → Refuses (rule_of version table) p people person
+    → Refuses (steps_of version table) p people person
 refused_shows version table p people admissions person laws seats below may choice refused = λ kind rule.
     refused kind (rule_shows version table p people admissions person kind laws seats below may choice rule)
 
@@ -85,24 +86,20 @@ pub all_of : {X : Type 0} (P : X → Type 0) (xs : List X) → ((x : X) → IsAm
 all_of P [] h = tt
 all_of P (x ∷ xs) h = (h x (inl refl), all_of P xs (λ y among. h y (inr among)))
 
--- a person who is among some of the people is among all
-pub within : (x : Person) (some all : List Person) → IsSublist some all → IsAmong x some → IsAmong x all
-within x some all part among = any_among (λ other. x ≡ other) some all (among_sublist some all part) among
-
 -- the people after the offer, and the choice from them
 pub record Facts (version : ℕ) (table : SeatTable) (seekers : List Seeker) (next : List ℕ) (i p n : ℕ) (s : Seeker) : Type 0 where
   pub with_one : IsWithOne s.person (tried p seekers next) (tried p seekers (slice_set next i (n + 1)))
   pub may : MayApplyIn table p (tried p seekers next)
   pub may_after : MayApplyIn table p (tried p seekers (slice_set next i (n + 1)))
 
-pub facts : (version : ℕ) (table : SeatTable) (seekers : List Seeker) (next : List ℕ) (i p n : ℕ) (s : Seeker) → ChoosesWell (rule_of version table) (MayApplyIn table)
-    → IsMarket (MayApplyIn table) (length table.programmes) seekers → IsUnderway (rule_of version table) (length table.programmes) seekers next
-    → IsUnderway (rule_of version table) (length table.programmes) seekers (slice_set next i (n + 1)) → MayTry (rule_of version table) (length table.programmes) seekers next i p n s
+pub facts : (rule : Rule) (version : ℕ) (table : SeatTable) (seekers : List Seeker) (next : List ℕ) (i p n : ℕ) (s : Seeker) → ChoosesWell rule (MayApplyIn table)
+    → IsMarket (MayApplyIn table) (length table.programmes) seekers → IsUnderway rule (length table.programmes) seekers next
+    → IsUnderway rule (length table.programmes) seekers (slice_set next i (n + 1)) → MayTry rule (length table.programmes) seekers next i p n s
     → Facts version table seekers next i p n s
-facts version table seekers next i p n s well market before after try = record {
+facts rule version table seekers next i p n s well market before after try = record {
   with_one = tried_with (MayApplyIn table) (length table.programmes) p i n seekers next s market try.there try.at try.place;
-  may = tried_may (rule_of version table) (MayApplyIn table) (length table.programmes) p seekers next market well try.below before.full before.within;
-  may_after = tried_may (rule_of version table) (MayApplyIn table) (length table.programmes) p seekers (slice_set next i (n + 1)) market well try.below after.full after.within;
+  may = tried_may rule (MayApplyIn table) (length table.programmes) p seekers next market well try.below before.full before.within;
+  may_after = tried_may rule (MayApplyIn table) (length table.programmes) p seekers (slice_set next i (n + 1)) market well try.below after.full after.within;
 }
 
 -- a person who is held tried the programme before
@@ -120,7 +117,7 @@ new_to_held version table seekers next i p n s admissions laws seats below f cho
     let after = tried p seekers (slice_set next i (n + 1)) in
     let apart : (other : Person) → IsAmong other (everybody admissions) → s.person.id ≢ other.id = λ other among.
     let before = held_tried version table p _ admissions other laws seats below f.may choice among in
-    ids_apart after s.person other f.may_after.distinct f.with_one.there (within other _ _ f.with_one.within before)
+    ids_apart after s.person other f.may_after.distinct f.with_one.there (widens other _ _ f.with_one.within before)
     (λ e. f.with_one.fresh (subst (λ z. IsAmong z (tried p seekers next)) (sym e) before)) in
     record {
       traits = all_among (λ (x : Person). IsTraitSet x.traits) after s.person f.may_after.traits f.with_one.there;
@@ -128,7 +125,7 @@ new_to_held version table seekers next i p n s admissions laws seats below f cho
       distinct = all_of _ _ apart;
       numbers = all_of _ _ (λ other among.
           let before = held_tried version table p _ admissions other laws seats below f.may choice among in
-          numbers_apart (list_in table p) after s.person other f.may_after.numbers f.with_one.there (within other _ _ f.with_one.within before) (apart other among));
+          numbers_apart (list_in table p) after s.person other f.may_after.numbers f.with_one.there (widens other _ _ f.with_one.within before) (apart other among));
     }
 
 -- The choice from those held with the seeker is the choice from all who tried.
@@ -139,17 +136,17 @@ pub goes_on_choice : (version : ℕ) (table : SeatTable) (seekers : List Seeker)
 goes_on_choice version table seekers next i p n s before after laws seats below f choice next_choice =
     laws.resumes version (seats_in table p) (tried p seekers next) (tried p seekers (slice_set next i (n + 1))) s.person before after (seats.sound p below) f.may.distinct f.may_after
     (record {
-      part = λ other among. within other _ _ f.with_one.within among;
+      part = λ other among. widens other _ _ f.with_one.within among;
       here = f.with_one.there;
       nobody_else = f.with_one.only;
     })
     f.with_one.fresh choice next_choice
 
 -- All states show the choices from those who tried, after the state of one programme took the offer.
-pub all_show : (version : ℕ) (table : SeatTable) (seekers : List Seeker) (next : List ℕ) (states : List ProgrammeKept) (i p n : ℕ) (s : Seeker) (old new : ProgrammeKept)
-    → AllShow version table seekers next states → MayTry (rule_of version table) (length table.programmes) seekers next i p n s → slice_get states p ≡ Some old
+pub all_show : (rule : Rule) (version : ℕ) (table : SeatTable) (seekers : List Seeker) (next : List ℕ) (states : List ProgrammeKept) (i p n : ℕ) (s : Seeker) (old new : ProgrammeKept)
+    → AllShow version table seekers next states → MayTry rule (length table.programmes) seekers next i p n s → slice_get states p ≡ Some old
     → Show version table seekers (slice_set next i (n + 1)) p new → AllShow version table seekers (slice_set next i (n + 1)) (slice_set states p new)
-all_show version table seekers next states i p n s old new shows try at shown = record {
+all_show rule version table seekers next states i p n s old new shows try at shown = record {
   full = length-set states p new ∙ shows.full;
   each = λ q state here. elim (eqb_tells q p) [
     | inl h ↦
@@ -163,7 +160,7 @@ all_show version table seekers next states i p n s old new shows try at shown = 
           version_is = before.version_is;
           seats_are = before.seats_are;
           choice = subst (λ people. ChoosesFrom version (seats_in table q) people (admissions_of state))
-              (sym (other_programmes (rule_of version table) (length table.programmes) p i n q seekers next s try h.1)) before.choice;
+              (sym (other_programmes rule (length table.programmes) p i n q seekers next s try h.1)) before.choice;
         }
   ];
 }

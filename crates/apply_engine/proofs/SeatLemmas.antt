@@ -5,8 +5,9 @@ use Rattle.std.proofs.lemmas.Bool.Decides.{eqb_tells}
 use Rattle.office_base.specs.CategorySteps.{all_steps}
 use Rattle.office_base.specs.Lists.{IsAmong, Pairwise}
 use Rattle.placements.proofs.Ranks.{one_person}
-use Rattle.office_base.specs.declared.asks.Seat.{Seat}
+use Rattle.office_base.specs.declared.seat.Seat.{Seat}
 use Rattle.office_base.specs.declared.person.Person.{Person}
+use Rattle.office_base.specs.declared.seat.SeatKind.TheVariants.{Under}
 use Rattle.office_base.specs.declared.step.StepKind.{StepKind}
 use Rattle.allocations.specs.Market.{seat_at}
 use Rattle.programme_lists.specs.declared.programme.Programme.{Programme}
@@ -23,7 +24,7 @@ shows_at programme j list order at = ap (λ k. admitted_of (slice_get programme.
 
 -- one step more
 pub step_more : (people : List Person) (p j : ℕ) (programme : Programme) (list : StepList) (old seats new : List (Option Seat)) → AreInOrder programme → IsShownOnce programme
-    → slice_get programme.steps j ≡ Some list → ArePut people p j programme old seats → IsPut people (seat_at p list.kind) list.admitted seats new → ArePut people p (j + 1) programme old new
+    → slice_get programme.steps j ≡ Some list → ArePut people p j programme old seats → IsPut people (seat_at p (Under list.kind)) list.admitted seats new → ArePut people p (j + 1) programme old new
 step_more people p j programme list old seats new order once at h put =
     let mine : shown programme list.kind ≡ list.admitted = shows_at programme j list order at in
     let number : step_number list.kind ≡ j = order.each j list at in
@@ -39,7 +40,7 @@ step_more people p j programme list old seats new order once at h put =
         | inr now ↦
             let same : kind ≡ list.kind = one_number kind list.kind (now ∙ sym number) in
             let here : IsAmong person list.admitted = subst (λ l. IsAmong person l) (ap (λ k. shown programme k) same ∙ mine) among in
-            put.here i person there here ∙ ap (λ k. Some (Some (seat_at p k))) (sym same)
+            put.here i person there here ∙ ap (λ k. Some (Some (seat_at p (Under k)))) (sym same)
       ];
       elsewhere = λ i person there apart.
           put.elsewhere i person there (λ here. apart list.kind (omega (arith, number)) (subst (λ l. IsAmong person l) (sym mine) here))
@@ -68,18 +69,22 @@ one_programme_more people programmes p programme seats new shown_is at given put
     | inr now ↦
         let here : slice_get programmes p ≡ Some other = subst (λ k. slice_get programmes k ≡ Some other) now at' in
         let same : other ≡ programme = cc in
-        put.here i person kind (below_all kind) there (subst (λ x. IsAmong person (shown x kind)) same among) ∙ ap (λ k. Some (Some (seat_at k kind))) (sym now)
+        put.here i person kind (below_all kind) there (subst (λ x. IsAmong person (shown x kind)) same among) ∙ ap (λ k. Some (Some (seat_at k (Under kind)))) (sym now)
   ];
   only = λ i person seat there has. elim (decide i person seat there has) [
     | inl mine ↦
         let set = put.here i person mine.0 (below_all mine.0) there mine.1 in
-        let same : seat ≡ seat_at p mine.0 = cc in
+        let same : seat ≡ seat_at p (Under mine.0) = cc in
         let prog : seat.prog.0 ≡ p = ap (λ (s : Seat). s.prog.0) same in (
           omega (arith, prog),
-          λ other at'.
-              let at_p : slice_get programmes p ≡ Some other = subst (λ k. slice_get programmes k ≡ Some other) prog at' in
-              let one : programme ≡ other = cc in
-              subst (λ x. IsAmong person (shown x seat.step)) one (subst (λ k. IsAmong person (shown programme k)) (ap (λ (s : Seat). s.step) (sym same)) mine.1),
+          record {
+            kind = mine.0;
+            under = ap (λ (s : Seat). s.step) same;
+            among = λ other at'.
+                let at_p : slice_get programmes p ≡ Some other = subst (λ k. slice_get programmes k ≡ Some other) prog at' in
+                let one : programme ≡ other = cc in
+                subst (λ x. IsAmong person (shown x mine.0)) one mine.1;
+          },
         )
     | inr none ↦
         let before = sym (put.elsewhere i person there (λ kind less. none kind)) ∙ has in

@@ -5,13 +5,13 @@ use Rattle.office_base.specs.declared.person.Person.{Person}
 use Rattle.office_base.specs.declared.person.ProgId.{ProgId}
 use Rattle.allocations.specs.Market.{Seeker}
 use Rattle.allocations.specs.Rule.{ChoosesWell}
-use Rattle.rounds.specs.Rule.{MayApplyIn, rule_of}
-use Rattle.seat_matrix.specs.Matrix.{AreSeats, SeatTable}
-use Rattle.apply_engine.specs.Engine.{AreLawful, seekers_with}
+use Rattle.rounds.specs.Rule.{MayApplyIn, guarantees}
+use Rattle.seat_matrix.specs.Matrix.{AreSeats}
+use Rattle.apply_engine.specs.Engine.{AreLawful, Setting, rule_in, seekers_with}
 
--- the programmes of a matrix choose well
-pub chooses_well : (version : ℕ) (table : SeatTable) → AreLawful → AreSeats table → ChoosesWell (rule_of version table) (MayApplyIn table)
-chooses_well version table laws seats = laws.well version table seats
+-- the programmes of a setting choose well
+pub chooses_well_in : (set : Setting) → AreLawful → AreSeats set.table → ChoosesWell (rule_in set) (MayApplyIn set.table)
+chooses_well_in set laws seats = laws.well set.version (guarantees set.people set.guaranteed) set.table seats
 
 -- ---- seekers
 

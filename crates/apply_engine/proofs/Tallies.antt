@@ -18,11 +18,10 @@ use Rattle.allocations.specs.Market.{Seeker, place_of, those}
 use Rattle.allocations.proofs.Course.{get_set_same}
 use Rattle.allocations.proofs.Settled.{other_programmes}
 use Rattle.programme_lists.specs.Programme.{is_of}
-use Rattle.rounds.specs.Rule.{rule_of}
 use Rattle.seat_matrix.specs.Matrix.{list_in}
 use Rattle.open_then_category.specs.Tried.{counted, one_if, with_member, with_one}
 use Rattle.open_then_category.specs.declared.kept_lists.Tried.{Tried}
-use Rattle.apply_engine.specs.Engine.{AreTallied, AreUntried, IsSet, Setting, seekers_in}
+use Rattle.apply_engine.specs.Engine.{AreTallied, AreUntried, IsSet, Setting, seekers_in, rule_in}
 use Rattle.apply_engine.proofs.Setting.{length_with}
 
 -- what is read where there is no count
@@ -129,7 +128,7 @@ has_room over next tallies p tally set tallied below at =
 -- ---- all programmes
 
 pub tallied_more : (over : Setting) (next : List ℕ) (tallies : List Tried) (i p n : ℕ) (s : Seeker) (old new : Tried) → AreTallied over next tallies
-    → MayTry (rule_of over.version over.table) (length over.table.programmes) (seekers_in over) next i p n s → slice_get tallies p ≡ Some old → new ≡ with_one s.person old
+    → MayTry (rule_in over) (length over.table.programmes) (seekers_in over) next i p n s → slice_get tallies p ≡ Some old → new ≡ with_one s.person old
     → AreTallied over (slice_set next i (n + 1)) (slice_set tallies p new)
 tallied_more over next tallies i p n s old new tallied try at more = record {
   full = length-set tallies p new ∙ tallied.full;
@@ -144,7 +143,7 @@ tallied_more over next tallies i p n s old new tallied try at more = record {
     | inr h ↦
         let his : slice_get tallies q ≡ Some tally = sym (get_set_other tallies p q new h.1) ∙ here in
         tallied.each q tally his
-        ∙ ap (λ people. counted (list_in over.table q) people) (sym (other_programmes (rule_of over.version over.table) (length over.table.programmes) p i n q (seekers_in over) next s try h.1))
+        ∙ ap (λ people. counted (list_in over.table q) people) (sym (other_programmes (rule_in over) (length over.table.programmes) p i n q (seekers_in over) next s try h.1))
   ];
 }
 

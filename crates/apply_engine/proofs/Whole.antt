@@ -4,7 +4,7 @@ use Rattle.std.specs.Prelude.{slice_get}
 use Rattle.std.specs.List.{AllByRecursion}
 use Rattle.std.proofs.lemmas.Option.{slice_get_within}
 use Rattle.office_base.specs.Limits.{most_row_choices}
-use Rattle.office_base.specs.declared.asks.Seat.{Seat}
+use Rattle.office_base.specs.declared.seat.Seat.{Seat}
 use Rattle.office_base.specs.declared.person.Person.{Person}
 use Rattle.office_base.specs.declared.person.ProgId.{ProgId}
 use Rattle.office_base.proofs.Lists.{there_is}
@@ -16,7 +16,7 @@ use Rattle.programme_lists.specs.Chosen.{ShowsFrom}
 use Rattle.choice_lists.specs.Choices.{Lists}
 use Rattle.rank_lists.specs.Register.{AreRanks, Ranks}
 use Rattle.rounds.specs.Round.{IsRound}
-use Rattle.rounds.specs.Rule.{IsOwnList, MayApplyIn, rule_of, seekers_of}
+use Rattle.rounds.specs.Rule.{IsOwnList, MayApplyIn, guarantees, rule_of, seekers_of}
 use Rattle.rounds.specs.declared.round.Round.{Round}
 use Rattle.rounds.proofs.Entrants.{leaves_own, leaves_sublist, market}
 use Rattle.seat_matrix.specs.Matrix.{AreSeats, SeatTable, seats_in}
@@ -56,16 +56,16 @@ left_at table (list ∷ lists) (seek ∷ seeks) (suc i) left at =
     record { list = rest.list; seek = rest.seek; at = rest.at; left_is = rest.left_is }
 
 -- the setting of a round
-abbrev pub setting : ℕ → SeatTable → Ranks → Lists → List Seek → Setting
-setting version table ranks lists seeks = record { version = version; table = table; people = ranks.people; lists = leaves_along table (lists_in lists) seeks }
+abbrev pub setting : ℕ → SeatTable → Ranks → Lists → List Seek → List (Option ProgId) → Setting
+setting version table ranks lists seeks guaranteed = record { version = version; table = table; people = ranks.people; lists = leaves_along table (lists_in lists) seeks; guaranteed = guaranteed }
 
 record OwnAt (table : SeatTable) (i : ℕ) (person : Person) (list : List ProgId) : Type 0 where
   own : IsOwnList table person list
   short : length list ≤ most_row_choices
 
-own_at : (version : ℕ) (table : SeatTable) (ranks : Ranks) (lists : Lists) (seeks : List Seek) (i : ℕ) (left : List ProgId) → MayRun version table ranks lists seeks → AreRanks ranks
+own_at : (version : ℕ) (table : SeatTable) (ranks : Ranks) (lists : Lists) (seeks : List Seek) (guaranteed : List (Option ProgId)) (i : ℕ) (left : List ProgId) → MayRun version table ranks lists seeks guaranteed → AreRanks ranks
     → slice_get (leaves_along table (lists_in lists) seeks) i ≡ Some left → (person : Person) × OwnAt table i person left
-own_at version table ranks lists seeks i left may sound at =
+own_at version table ranks lists seeks guaranteed i left may sound at =
     let found = left_at table (lists_in lists) seeks i left at in
     let less : i < length ranks.people =
     (let short = slice_get_within (lists_in lists) i found.list found.at in let a = length_lists lists in let b = aligned_length lists ranks.people may.aligned in omega (arith, short, a, b)) in
@@ -81,19 +81,20 @@ own_at version table ranks lists seeks i left may sound at =
       },
     )
 
-pub is_set : (version : ℕ) (table : SeatTable) (ranks : Ranks) (lists : Lists) (seeks : List Seek) → MayRun version table ranks lists seeks → AreLawful → AreSeats table → AreRanks ranks
-    → IsSet (setting version table ranks lists seeks)
-is_set version table ranks lists seeks may laws seats sound = record {
+pub is_set : (version : ℕ) (table : SeatTable) (ranks : Ranks) (lists : Lists) (seeks : List Seek) (guaranteed : List (Option ProgId)) → MayRun version table ranks lists seeks guaranteed → AreLawful → AreSeats table → AreRanks ranks
+    → IsSet (setting version table ranks lists seeks guaranteed)
+is_set version table ranks lists seeks guaranteed may laws seats sound = record {
   laws = laws;
   seats = seats;
   market = subst (λ s. IsMarket (MayApplyIn table) (length table.programmes) s) (sym (seekers_same table ranks.people (lists_in lists) seeks))
       (market table ranks.people (lists_in lists) seeks seats (entrants ranks table lists sound may.choices may.aligned));
   rising = sound.rising;
   full = length_left table (lists_in lists) seeks may.sought.full ∙ (length_lists lists ∙ aligned_length lists ranks.people may.aligned);
+  sure = may.sure;
   few = sound.few;
-  short = λ i left at. (own_at version table ranks lists seeks i left may sound at).1.short;
-  distinct = λ i left at. (own_at version table ranks lists seeks i left may sound at).1.own.distinct;
-  below = λ i left at. (own_at version table ranks lists seeks i left may sound at).1.own.below;
+  short = λ i left at. (own_at version table ranks lists seeks guaranteed i left may sound at).1.short;
+  distinct = λ i left at. (own_at version table ranks lists seeks guaranteed i left may sound at).1.own.distinct;
+  below = λ i left at. (own_at version table ranks lists seeks guaranteed i left may sound at).1.own.below;
 }
 
 all_below : (count : ℕ) (list : List ProgId) → AllByRecursion (λ (prog : ProgId). prog.0 < count) list → AreBelow count list
@@ -102,36 +103,38 @@ all_below count (x ∷ list) all zero prog at = let same : x ≡ prog = cc in su
 all_below count (x ∷ list) all (suc k) prog at = all_below count list all.1 k prog at
 
 -- the choice lists name programmes of the matrix
-pub lists_below : (version : ℕ) (table : SeatTable) (ranks : Ranks) (lists : Lists) (seeks : List Seek) → MayRun version table ranks lists seeks → AreRanks ranks → (i : ℕ) (list : List ProgId)
+pub lists_below : (version : ℕ) (table : SeatTable) (ranks : Ranks) (lists : Lists) (seeks : List Seek) (guaranteed : List (Option ProgId)) → MayRun version table ranks lists seeks guaranteed → AreRanks ranks → (i : ℕ) (list : List ProgId)
     → slice_get (lists_in lists) i ≡ Some list → AreBelow (length table.programmes) list
-lists_below version table ranks lists seeks may sound i list at =
+lists_below version table ranks lists seeks guaranteed may sound i list at =
     let less : i < length ranks.people =
     (let short = slice_get_within (lists_in lists) i list at in let a = length_lists lists in let b = aligned_length lists ranks.people may.aligned in omega (arith, short, a, b)) in
     let person = there_is ranks.people i less in
     all_below (length table.programmes) list ((entrants ranks table lists sound may.choices may.aligned).own i person.0 list person.1 at).below
 
 -- what is made over the setting is the round
-pub is_round : (version : ℕ) (table : SeatTable) (ranks : Ranks) (lists : Lists) (n : ℕ) (seeks : List Seek) (round : Round) → IsMade (setting version table ranks lists seeks) n seeks round
-    → IsRound version table ranks.people (lists_in lists) n seeks round
-is_round version table ranks lists n seeks round made =
+pub is_round : (version : ℕ) (table : SeatTable) (ranks : Ranks) (lists : Lists) (n : ℕ) (seeks : List Seek) (guaranteed : List (Option ProgId)) (round : Round)
+    → IsMade (setting version table ranks lists seeks guaranteed) n seeks round → IsRound version (guarantees ranks.people guaranteed) table ranks.people (lists_in lists) n seeks round
+is_round version table ranks lists n seeks guaranteed round made =
     let e = seekers_same table ranks.people (lists_in lists) seeks in
     record {
       number = made.number;
       sought = made.sought;
-      best = subst (λ s. IsBest (rule_of version table) (length table.programmes) s round.seats) e made.best;
+      best = subst (λ s. IsBest (rule_of version (guarantees ranks.people guaranteed) table) (length table.programmes) s round.seats) e made.best;
       count = made.count;
       shown = λ p programme at. subst (λ s. ShowsFrom version (seats_in table p) (applicants p s round.seats) programme) e (made.shown p programme at);
     }
 
 -- over these lists the setting is that of the round
-pub over_is : (version : ℕ) (table : SeatTable) (ranks : Ranks) (lists : Lists) (seeks : List Seek) (left : List (List ProgId)) → left ≡ leaves_along table (lists_in lists) seeks
-    → setting version table ranks lists seeks ≡ record { version = version; table = table; people = ranks.people; lists = left }
-over_is version table ranks lists seeks left same = ap (λ l. let s : Setting = record { version = version; table = table; people = ranks.people; lists = l } in s) (sym same)
+pub over_is : (version : ℕ) (table : SeatTable) (ranks : Ranks) (lists : Lists) (seeks : List Seek) (guaranteed : List (Option ProgId)) (left : List (List ProgId)) → left ≡ leaves_along table (lists_in lists) seeks
+    → setting version table ranks lists seeks guaranteed ≡ record { version = version; table = table; people = ranks.people; lists = left; guaranteed = guaranteed }
+over_is version table ranks lists seeks guaranteed left same =
+    ap (λ l. let s : Setting = record { version = version; table = table; people = ranks.people; lists = l; guaranteed = guaranteed } in s) (sym same)
 
-pub set_over : (version : ℕ) (table : SeatTable) (ranks : Ranks) (lists : Lists) (seeks : List Seek) (left : List (List ProgId)) → MayRun version table ranks lists seeks → AreLawful → AreSeats table
-    → AreRanks ranks → left ≡ leaves_along table (lists_in lists) seeks → IsSet (record { version = version; table = table; people = ranks.people; lists = left })
-set_over version table ranks lists seeks left may laws seats sound same =
-    subst (λ (s : Setting). IsSet s) (over_is version table ranks lists seeks left same) (is_set version table ranks lists seeks may laws seats sound)
+pub set_over : (version : ℕ) (table : SeatTable) (ranks : Ranks) (lists : Lists) (seeks : List Seek) (guaranteed : List (Option ProgId)) (left : List (List ProgId))
+    → MayRun version table ranks lists seeks guaranteed → AreLawful → AreSeats table → AreRanks ranks → left ≡ leaves_along table (lists_in lists) seeks
+    → IsSet (record { version = version; table = table; people = ranks.people; lists = left; guaranteed = guaranteed })
+set_over version table ranks lists seeks guaranteed left may laws seats sound same =
+    subst (λ (s : Setting). IsSet s) (over_is version table ranks lists seeks guaranteed left same) (is_set version table ranks lists seeks guaranteed may laws seats sound)
 
 pub cost_over : (table : SeatTable) (people : List Person) (lists : List (List ProgId)) (seeks : List Seek) (left : List (List ProgId)) (before after : ℕ) → left ≡ leaves_along table lists seeks
     → after ≤ before + places (seekers_with people left) → after ≤ before + places (seekers_of table people lists seeks)
@@ -143,7 +146,9 @@ pub counted_over : (table : SeatTable) (people : List Person) (lists : List (Lis
 counted_over table people lists seeks left seats before after same counted =
     subst (λ s. after ≡ before + applications s seats) (ap (λ l. seekers_with people l) same ∙ seekers_same table people lists seeks) counted
 
-pub round_over_is : (version : ℕ) (table : SeatTable) (ranks : Ranks) (lists : Lists) (n : ℕ) (seeks : List Seek) (left : List (List ProgId)) (round : Round) → left ≡ leaves_along table (lists_in lists) seeks
-    → IsMade (record { version = version; table = table; people = ranks.people; lists = left }) n seeks round → IsRound version table ranks.people (lists_in lists) n seeks round
-round_over_is version table ranks lists n seeks left round same made =
-    is_round version table ranks lists n seeks round (subst (λ (s : Setting). IsMade s n seeks round) (sym (over_is version table ranks lists seeks left same)) made)
+pub round_over_is : (version : ℕ) (table : SeatTable) (ranks : Ranks) (lists : Lists) (n : ℕ) (seeks : List Seek) (guaranteed : List (Option ProgId)) (left : List (List ProgId)) (round : Round)
+    → left ≡ leaves_along table (lists_in lists) seeks → IsMade (record { version = version; table = table; people = ranks.people; lists = left; guaranteed = guaranteed }) n seeks round
+    → IsRound version (guarantees ranks.people guaranteed) table ranks.people (lists_in lists) n seeks round
+round_over_is version table ranks lists n seeks guaranteed left round same made =
+    is_round version table ranks lists n seeks guaranteed round
+    (subst (λ (s : Setting). IsMade s n seeks round) (sym (over_is version table ranks lists seeks guaranteed left same)) made)

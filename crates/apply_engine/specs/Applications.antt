@@ -1,7 +1,7 @@
 -- How many applications a round takes (Gale and Shapley 1962): everybody has applied to each programme of their list
 -- down to the one that holds them.
 use Rattle.std.specs.Prelude.{◌+◌, ℕ, List, [], ◌∷◌, Option, Some, None, length}
-use Rattle.office_base.specs.declared.asks.Seat.{Seat}
+use Rattle.office_base.specs.declared.seat.Seat.{Seat}
 use Rattle.office_base.specs.declared.person.ProgId.{ProgId}
 use Rattle.allocations.specs.Market.{Seeker, place_of}
 

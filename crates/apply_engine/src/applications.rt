@@ -2,7 +2,7 @@
 ghost use Rattle.std.specs.Prelude.{◌≡◌, ◌<◌, ◌≤◌, ◌+◌, ℕ, List, Some, None, IfOk, length, slice_get, slice_set, slice_index, sum};
 ghost use Rattle.allocations.specs.Course.{places, places_left};
 ghost use Rattle.office_base.specs.Version.{IsVersion};
-ghost use Rattle.apply_engine.specs.Engine.{Setting, AreSettledBefore, AreTallied, Enters, HasApplied, HasRun, IsGoing, IsNextToPropose, Leaves, MayPropose, seekers_in};
+ghost use Rattle.apply_engine.specs.Engine.{Setting, free_at, AreSettledBefore, AreTallied, Enters, HasApplied, HasRun, IsGoing, IsNextToPropose, Leaves, MayPropose, seekers_in};
 
 use crate::programmes::{begin_states, begin_tallies};
 use choice_lists::FlatLists;
@@ -23,11 +23,23 @@ pub(crate) struct Applied {
     pub next: Vec<u16>,
 }
 
+/// Returns the place of one whom a programme does not choose, unless the candidate there is guaranteed a seat of it.
+fn free_unless_kept(guaranteed: &[Option<ProgId>], place: usize, prog: ProgId) -> Option<usize>
+    requires { place < length guaranteed.now }
+    ensures { result ≡ free_at guaranteed.now place prog.0 }
+{
+    match guaranteed[place] {
+        Some(kept) => { if kept.0 == prog.0 { None } else { Some(place) } }
+        None => Some(place),
+    }
+}
+
 /// Makes the candidate at `cur`, who is free, try the next programme of their list. Returns who is free then: nobody,
 /// or the one at this place.
 fn offer_next<L: Ledger>(
     register: &Register,
     lists: &FlatLists<ProgId>,
+    guaranteed: &[Option<ProgId>],
     states: &mut [ProgrammeState],
     tallies: &mut [Tried],
     next: &mut [u16],
@@ -35,7 +47,7 @@ fn offer_next<L: Ledger>(
     steps: &mut Steps<L>,
 ) -> Option<usize>
     ghost over: { Setting }
-    requires may_propose { MayPropose over register.now.people lists.now next.old states.old cur }
+    requires may_propose { MayPropose over register.now.people lists.now guaranteed.now next.old states.old cur }
     requires tallied { AreTallied over next.old tallies.old }
     ensures going { IsGoing over next.new states.new }
     ensures tallied { AreTallied over next.new tallies.new }
@@ -52,12 +64,12 @@ fn offer_next<L: Ledger>(
     tallies[at].add(person);
     match states[at].offer(person, steps) {
         Offered::Taken => None,
-        Offered::Refused => Some(cur),
+        Offered::Refused => free_unless_kept(guaranteed, cur, prog),
         Offered::Displaced(cand) => {
             let Some(place) = register.position(cand) else {
                 unreachable!("whoever is held is a candidate of the register")
             };
-            Some(place as usize)
+            free_unless_kept(guaranteed, place as usize, prog)
         }
     }
 }
@@ -66,6 +78,7 @@ fn offer_next<L: Ledger>(
 fn apply_from<L: Ledger>(
     register: &Register,
     lists: &FlatLists<ProgId>,
+    guaranteed: &[Option<ProgId>],
     states: &mut [ProgrammeState],
     tallies: &mut [Tried],
     next: &mut [u16],
@@ -74,14 +87,16 @@ fn apply_from<L: Ledger>(
 )
     ghost over: { Setting }
     requires is_next { IsNextToPropose over register.now.people
-        lists.now next.old states.old first }
+        lists.now guaranteed.now next.old states.old first }
     requires tallied { AreTallied over next.old tallies.old }
     ensures applied { HasApplied over next.old next.new states.new (first + 1) steps.old steps.new }
     ensures tallied { AreTallied over next.new tallies.new }
 {
     let mut cur = first;
     while usize::from(next[cur]) < lists.at(cur).len() {
-        match offer_next(register, lists, states, tallies, next, cur, steps) {
+        match offer_next(
+            register, lists, guaranteed, states, tallies, next, cur, steps,
+        ) {
             None => return,
             Some(free) => cur = free,
         }
@@ -92,20 +107,23 @@ fn apply_from<L: Ledger>(
 fn apply_in_order<L: Ledger>(
     register: &Register,
     lists: &FlatLists<ProgId>,
+    guaranteed: &[Option<ProgId>],
     states: &mut [ProgrammeState],
     tallies: &mut [Tried],
     next: &mut [u16],
     steps: &mut Steps<L>,
 )
     ghost over: { Setting }
-    requires settled { AreSettledBefore over register.now.people lists.now next.old states.old 0 }
+    requires settled { AreSettledBefore over register.now.people lists.now guaranteed.now next.old states.old 0 }
     requires tallied { AreTallied over next.old tallies.old }
     ensures applied { HasApplied over next.old next.new states.new
         (length register.now.people) steps.old steps.new }
     ensures tallied { AreTallied over next.new tallies.new }
 {
     for first in 0..next.len() {
-        apply_from(register, lists, states, tallies, next, first, steps);
+        apply_from(
+            register, lists, guaranteed, states, tallies, next, first, steps,
+        );
     }
 }
 
@@ -116,10 +134,11 @@ pub(crate) fn apply_all<L: Ledger>(
     matrix: &Matrix,
     register: &Register,
     lists: &FlatLists<ProgId>,
+    guaranteed: &[Option<ProgId>],
     steps: &mut Steps<L>,
 ) -> Result<Applied, OutOfMemory>
     ghost over: { Setting }
-    requires { Enters over version matrix.now register.now.people lists.now }
+    requires { Enters over version matrix.now register.now.people lists.now guaranteed.now }
     ensures run { IfOk result (λ applied.
         HasRun over applied.next.items applied.states.items applied.tallies.items) }
     ensures cost { steps.new ≤ steps.old + places (seekers_in over) }
@@ -128,7 +147,15 @@ pub(crate) fn apply_all<L: Ledger>(
     let mut states = begin_states(alloc, matrix, version)?;
     let mut tallies = begin_tallies(alloc, matrix)?;
     let mut next = vec![in alloc; 0u16; lists.len()]?;
-    apply_in_order(register, lists, &mut states, &mut tallies, &mut next, steps);
+    apply_in_order(
+        register,
+        lists,
+        guaranteed,
+        &mut states,
+        &mut tallies,
+        &mut next,
+        steps,
+    );
     Ok(Applied {
         states,
         tallies,

@@ -1,13 +1,13 @@
 // The rounds of a season.
-ghost use Rattle.std.specs.Prelude.{◌≡◌, ◌<◌, ◌≤◌, ◌+◌, IfOk};
+ghost use Rattle.std.specs.Prelude.{◌≡◌, ◌<◌, ◌≤◌, ◌+◌, IfOk, None, length, replicate};
 ghost use Rattle.allocations.specs.Course.{places};
 ghost use Rattle.rounds.specs.Round.{IsRound};
-ghost use Rattle.rounds.specs.Rule.{AreSeeks, seekers_of};
+ghost use Rattle.rounds.specs.Rule.{AreSeeks, guarantees, nobody, seekers_of};
 ghost use Rattle.apply_engine.specs.Applications.{applications};
 ghost use Rattle.apply_engine.specs.Engine.{lists_in};
 
 use crate::one_round::round_over;
-use office_base::{OutOfMemory, Steps};
+use office_base::{OutOfMemory, ProgId, Steps};
 use rounds::{Round, Seeks};
 use season_file::Season;
 use seat_matrix::Matrix;
@@ -16,25 +16,30 @@ use std::marker::Brand;
 use std::sync::ledger::{Blank, Ledger};
 
 /// Returns the round of this number over a season, on what each candidate of the register seeks. The matrix is one of
-/// the season's programmes: the season's own one, or one with raised seats.
+/// the season's programmes: the season's own one, or one with raised seats. `guaranteed` has for each candidate of the
+/// register the programme of which a seat is guaranteed, if there is one.
 ///
 /// The round is the best allocation on what the seeks leave of the choice lists (candidates propose, and acceptance
-/// is deferred). It has the lists of each programme from its applicants.
+/// is deferred). Whoever is guaranteed a seat of a programme, applies there and is not chosen has a kept seat of it,
+/// beyond those of its steps. The round has the lists of each programme from its applicants.
 ///
 /// Steps rise by one for each application. Everybody has applied to each programme of what their seek leaves, down to
 /// that of their seat, or to all of them without a seat. The only error is that memory runs out. It leaves nothing
 /// but the steps, which never rise by more than the lengths of what the seeks leave.
-pub fn round<L: Ledger>(
+pub fn round_with<L: Ledger>(
     alloc: Global,
     season: &Season,
     matrix: &Matrix,
     number: u16,
     seeks: &Seeks,
+    guaranteed: &[Option<ProgId>],
     steps: &mut Steps<L>,
 ) -> Result<Round, OutOfMemory>
     requires programmes { matrix.now.programmes ≡ season.now.matrix.programmes }
     requires sought { AreSeeks (lists_in season.now.choices) seeks.now }
-    ensures round { IfOk result (λ round. IsRound season.now.version matrix.now
+    requires sure { length guaranteed.now ≡ length season.now.register.people }
+    ensures round { IfOk result (λ round. IsRound season.now.version
+        (guarantees season.now.register.people guaranteed.now) matrix.now
         season.now.register.people (lists_in season.now.choices) number seeks.now round) }
     ensures cost { steps.new ≤ steps.old + places
         (seekers_of matrix.now season.now.register.people (lists_in season.now.choices) seeks.now) }
@@ -50,10 +55,41 @@ pub fn round<L: Ledger>(
         matrix,
         &season.register,
         &season.choices,
+        guaranteed,
         number,
         own,
         steps,
     )
+}
+
+/// Returns the same round as `round_with` where nobody is guaranteed a seat.
+pub fn round<L: Ledger>(
+    alloc: Global,
+    season: &Season,
+    matrix: &Matrix,
+    number: u16,
+    seeks: &Seeks,
+    steps: &mut Steps<L>,
+) -> Result<Round, OutOfMemory>
+    requires programmes { matrix.now.programmes ≡ season.now.matrix.programmes }
+    requires sought { AreSeeks (lists_in season.now.choices) seeks.now }
+    ensures round { IfOk result (λ round. IsRound season.now.version nobody matrix.now
+        season.now.register.people (lists_in season.now.choices) number seeks.now round) }
+    ensures cost { steps.new ≤ steps.old + places
+        (seekers_of matrix.now season.now.register.people (lists_in season.now.choices) seeks.now) }
+    ensures counted { IfOk result (λ round.
+        steps.new ≡ steps.old + applications (seekers_of matrix.now season.now.register.people
+        (lists_in season.now.choices) seeks.now) round.seats) }
+{
+    let guaranteed = nobody(alloc, season.register.people().len())?;
+    round_with(alloc, season, matrix, number, seeks, &guaranteed, steps)
+}
+
+/// Returns no guarantee for each of so many candidates.
+fn nobody(alloc: Global, count: usize) -> Result<Vec<Option<ProgId>>, OutOfMemory>
+    ensures { IfOk result (λ guaranteed. guaranteed.items ≡ replicate count None) }
+{
+    Ok(vec![in alloc; None; count]?)
 }
 
 /// The round of these seeks, its steps counted in a newly opened ledger.
@@ -63,6 +99,7 @@ fn round_in<L: Ledger>(
     matrix: &Matrix,
     number: u16,
     seeks: Seeks,
+    guaranteed: &[Option<ProgId>],
     blank: Blank,
 ) -> Result<Round, OutOfMemory>
     requires name { blank.name ≡ L.name }
@@ -70,7 +107,9 @@ fn round_in<L: Ledger>(
     requires some { 0 < blank.parts }
     requires programmes { matrix.now.programmes ≡ season.now.matrix.programmes }
     requires sought { AreSeeks (lists_in season.now.choices) seeks }
-    ensures { IfOk result (λ round. IsRound season.now.version matrix.now
+    requires sure { length guaranteed.now ≡ length season.now.register.people }
+    ensures { IfOk result (λ round. IsRound season.now.version
+        (guarantees season.now.register.people guaranteed.now) matrix.now
         season.now.register.people (lists_in season.now.choices) number seeks round) }
 {
     let mut steps: Steps<L> = Steps::new(blank);
@@ -80,6 +119,7 @@ fn round_in<L: Ledger>(
         matrix,
         &season.register,
         &season.choices,
+        guaranteed,
         number,
         seeks,
         &mut steps,
@@ -97,8 +137,17 @@ pub fn plain_round(
 ) -> Result<Round, OutOfMemory>
     requires programmes { matrix.now.programmes ≡ season.now.matrix.programmes }
     requires sought { AreSeeks (lists_in season.now.choices) seeks }
-    ensures round { IfOk result (λ round. IsRound season.now.version matrix.now
+    ensures round { IfOk result (λ round. IsRound season.now.version nobody matrix.now
         season.now.register.people (lists_in season.now.choices) number seeks round) }
 {
-    round_in::<Brand>(alloc, season, matrix, number, seeks, Blank::new(1))
+    let guaranteed = nobody(alloc, season.register.people().len())?;
+    round_in::<Brand>(
+        alloc,
+        season,
+        matrix,
+        number,
+        seeks,
+        &guaranteed,
+        Blank::new(1),
+    )
 }

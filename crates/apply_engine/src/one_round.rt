@@ -2,9 +2,9 @@
 ghost use Rattle.std.specs.Prelude.{◌≡◌, ◌≤◌, ◌+◌, IfOk, sum};
 ghost use Rattle.allocations.specs.Course.{places};
 ghost use Rattle.rounds.specs.Round.{IsRound};
-ghost use Rattle.rounds.specs.Rule.{seekers_of};
+ghost use Rattle.rounds.specs.Rule.{guarantees, seekers_of};
 ghost use Rattle.apply_engine.specs.Applications.{applications};
-ghost use Rattle.apply_engine.specs.Engine.{AreLawful, Enters, HasRun, IsMade, MayRun, Setting, lists_in, seekers_in};
+ghost use Rattle.apply_engine.specs.Engine.{AreLawful, Enters, HasRun, IsMade, IsOver, MayRun, Setting, lists_in, seekers_in};
 
 use crate::applications::{Applied, apply_all};
 use crate::effective::effective;
@@ -27,19 +27,22 @@ fn laws()
     open_then_category::laws::admitted_once();
     open_then_category::laws::resumes();
     round_laws::laws::choose_well();
+    round_laws::laws::steps_choose_well();
     merit_choice::laws::part_can_be_ranked();
 }
 
-/// The round of those who applied: the lists of the programmes, and the seats by them.
+/// The round of those who applied: the lists of the programmes, the seats by them, and those that are kept beyond them.
 fn finish(
     alloc: Global,
     register: &Register,
+    lists: &FlatLists<ProgId>,
+    guaranteed: &[Option<ProgId>],
     applied: &Applied,
     number: u16,
     seeks: Seeks,
 ) -> Result<Round, OutOfMemory>
     ghost over: { Setting }
-    requires people { over.people ≡ register.now.people }
+    requires over { IsOver over register.now.people lists.now guaranteed.now }
     requires run { HasRun over applied.now.next.items
         applied.now.states.items applied.now.tallies.items }
     ensures made { IfOk result (IsMade over number seeks) }
@@ -47,7 +50,14 @@ fn finish(
         sum applied.now.next.items ≡ applications (seekers_in over) round.seats) }
 {
     let programmes = list_programmes(alloc, applied)?;
-    let seats = seats_of(alloc, register, programmes.as_slice())?;
+    let seats = seats_of(
+        alloc,
+        register,
+        programmes.as_slice(),
+        lists,
+        guaranteed,
+        &applied.next,
+    )?;
     Ok(Round {
         number,
         seeks,
@@ -63,35 +73,38 @@ fn round_on<L: Ledger>(
     matrix: &Matrix,
     register: &Register,
     lists: &FlatLists<ProgId>,
+    guaranteed: &[Option<ProgId>],
     number: u16,
     seeks: Seeks,
     steps: &mut Steps<L>,
 ) -> Result<Round, OutOfMemory>
     ghost over: { Setting }
-    requires { Enters over version matrix.now register.now.people lists.now }
+    requires { Enters over version matrix.now register.now.people lists.now guaranteed.now }
     ensures round { IfOk result (IsMade over number seeks) }
     ensures cost { steps.new ≤ steps.old + places (seekers_in over) }
     ensures counted { IfOk result (λ round.
         steps.new ≡ steps.old + applications (seekers_in over) round.seats) }
 {
-    let applied = apply_all(alloc, version, matrix, register, lists, steps)?;
-    finish(alloc, register, &applied, number, seeks)
+    let applied = apply_all(alloc, version, matrix, register, lists, guaranteed, steps)?;
+    finish(alloc, register, lists, guaranteed, &applied, number, seeks)
 }
 
-/// The round over choices, on these seeks.
+/// The round over choices, on these seeks and guarantees.
 pub(crate) fn round_over<L: Ledger>(
     alloc: Global,
     version: u8,
     matrix: &Matrix,
     register: &Register,
     choices: &Choices,
+    guaranteed: &[Option<ProgId>],
     number: u16,
     seeks: Seeks,
     steps: &mut Steps<L>,
 ) -> Result<Round, OutOfMemory>
-    requires { MayRun version matrix.now register.now choices.now seeks }
+    requires { MayRun version matrix.now register.now choices.now seeks guaranteed.now }
     ensures round { IfOk result (λ round.
-        IsRound version matrix.now register.now.people (lists_in choices.now) number seeks round) }
+        IsRound version (guarantees register.now.people guaranteed.now) matrix.now
+        register.now.people (lists_in choices.now) number seeks round) }
     ensures cost { steps.new ≤ steps.old
         + places (seekers_of matrix.now register.now.people (lists_in choices.now) seeks) }
     ensures counted { IfOk result (λ round. steps.new ≡ steps.old + applications
@@ -102,6 +115,6 @@ pub(crate) fn round_over<L: Ledger>(
     let _people = register.people();
     let lists = effective(alloc, matrix, choices, seeks.as_slice())?;
     round_on(
-        alloc, version, matrix, register, &lists, number, seeks, steps,
+        alloc, version, matrix, register, &lists, guaranteed, number, seeks, steps,
     )
 }

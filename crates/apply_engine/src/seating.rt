@@ -1,11 +1,12 @@
 // The seats of a round, from the lists of its programmes.
-ghost use Rattle.std.specs.Prelude.{◌≡◌, ◌<◌, ◌≤◌, ℕ, Option, Some, None, IfOk, length, slice_get};
+ghost use Rattle.std.specs.Prelude.{◌≡◌, ◌<◌, ◌≤◌, ℕ, List, Option, Some, None, IfOk, length, slice_get};
 ghost use Rattle.office_base.specs.CategorySteps.{all_steps};
-ghost use Rattle.office_base.specs.declared.asks.Seat.{Seat as AnySeat};
+ghost use Rattle.office_base.specs.declared.seat.Seat.{Seat as AnySeat};
 ghost use Rattle.office_base.specs.declared.step.StepKind.{StepKind as AnyStepKind};
-ghost use Rattle.apply_engine.specs.Made.{AreGiven, AreInOrder, AreOf, ArePut, AreShown, IsPut, IsShownOnce, shown};
+ghost use Rattle.apply_engine.specs.Made.{AreGiven, AreInOrder, AreInPlace, AreKept, AreOf, ArePut, AreSeated, AreShown, AreTried, IsPut, IsShownOnce, kept_seat, shown};
 
-use office_base::{Listed, OutOfMemory, Person, ProgId, Seat};
+use choice_lists::FlatLists;
+use office_base::{Listed, OutOfMemory, Person, ProgId, Seat, SeatKind};
 use programme_lists::Programme;
 use rank_lists::Register;
 use rounds::Seats;
@@ -44,7 +45,7 @@ fn put_programme(
     for list in &programme.steps {
         let seat = Seat {
             prog,
-            step: list.kind,
+            step: SeatKind::Under(list.kind),
         };
         put_seat(seats, register, seat, list.admitted.as_slice());
     }
@@ -64,17 +65,72 @@ fn put_all(seats: &mut [Option<Seat>], register: &Register, programmes: &[Progra
     }
 }
 
-/// The seat of each person of the register, by the lists of the programmes.
+/// Returns the seat beyond all steps of a person who tried the first so many programmes of this list and is guaranteed
+/// a seat of a programme: one of that programme, if it was tried last.
+fn kept_seat(list: &[ProgId], tried: u16, sure: Option<ProgId>) -> Option<Seat>
+    requires in_place { AreInPlace list.now }
+    requires within { tried ≤ length list.now }
+    ensures { result ≡ kept_seat list.now tried sure }
+{
+    let prog = sure?;
+    kept_of(list, tried, prog)
+}
+
+/// Returns the seat beyond all steps of a programme that is guaranteed, if it was tried last.
+fn kept_of(list: &[ProgId], tried: u16, prog: ProgId) -> Option<Seat>
+    requires in_place { AreInPlace list.now }
+    requires within { tried ≤ length list.now }
+    ensures { result ≡ kept_seat list.now tried (Some prog) }
+{
+    if tried == 0 {
+        return None;
+    }
+    let last = list[usize::from(tried) - 1];
+    if last.0 != prog.0 {
+        return None;
+    }
+    Some(Seat {
+        prog,
+        step: SeatKind::Kept,
+    })
+}
+
+/// Gives a seat beyond those of all steps to each person without one who is guaranteed a seat of the programme that
+/// the person tried last.
+fn keep_seats(
+    seats: &mut [Option<Seat>],
+    lists: &FlatLists<ProgId>,
+    guaranteed: &[Option<ProgId>],
+    next: &[u16],
+)
+    requires { AreTried lists.now guaranteed.now next.now seats.old }
+    ensures { AreKept lists.now guaranteed.now next.now seats.old seats.new }
+{
+    for at in 0..seats.len() {
+        if let None = seats[at] {
+            seats[at] = kept_seat(lists.at(at), next[at], guaranteed[at]);
+        }
+    }
+}
+
+/// The seat of each person of the register: those that the lists of the programmes show, and beyond them those that
+/// are kept for persons who are guaranteed one.
 pub(crate) fn seats_of(
     alloc: Global,
     register: &Register,
     programmes: &[Programme],
+    lists: &FlatLists<ProgId>,
+    guaranteed: &[Option<ProgId>],
+    next: &[u16],
 ) -> Result<Seats, OutOfMemory>
-    requires { AreShown register.now.people programmes.now }
-    ensures { IfOk result (λ seats.
-        AreGiven register.now.people programmes.now (length programmes.now) seats) }
+    requires shown { AreShown register.now.people programmes.now }
+    requires tried { (own : List (Option AnySeat)) → length own ≡ length register.now.people
+        → AreTried lists.now guaranteed.now next.now own }
+    ensures { IfOk result (λ seats. AreSeated register.now.people programmes.now
+        lists.now guaranteed.now next.now seats) }
 {
     let mut seats = vec![in alloc; None; register.people().len()]?;
     put_all(&mut seats, register, programmes);
+    keep_seats(&mut seats, lists, guaranteed, next);
     Ok(Listed::from_vec(seats))
 }

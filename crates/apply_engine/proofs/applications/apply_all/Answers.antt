@@ -12,19 +12,19 @@ apply_in_order-requires g c = λ κs within.
     let zeros = c.deref_mut-3.ensures.value ∙ (c.in_ok-next.ensures.items_if_clones_equal (λ y h. search rules) ∙ ap (λ (n : ℕ). replicate n 0) c.len.ensures) in (
       λ a member. within a member,
       (
-        enters g.over _ _ _ _ _ _ c.requires.1 (subst (λ (states : List ProgrammeKept). AreBegun c.args.version c.args.matrix.now states) (sym c.deref_mut.ensures.value) c.in_ok-states.ensures) zeros,
-        enters_untried g.over _ _ _ _ _ _ c.requires.1 (subst (λ (tallies : List Tried). AreUntried c.args.matrix.now tallies) (sym c.deref_mut-2.ensures.value) c.in_ok-tallies.ensures) zeros,
+        enters g.over _ _ _ _ _ _ _ c.requires.1 (subst (λ (states : List ProgrammeKept). AreBegun c.args.version c.args.matrix.now states) (sym c.deref_mut.ensures.value) c.in_ok-states.ensures) zeros,
+        enters_untried g.over _ _ _ _ _ _ _ c.requires.1 (subst (λ (tallies : List Tried). AreUntried c.args.matrix.now tallies) (sym c.deref_mut-2.ensures.value) c.in_ok-tallies.ensures) zeros,
       ),
     )
 
 pub returns-clause-run : goal.returns-clause-run
 returns-clause-run g c =
     let zeros = c.deref_mut-3.ensures.value ∙ (c.in_ok-next.ensures.items_if_clones_equal (λ y h. search rules) ∙ ap (λ (n : ℕ). replicate n 0) c.len.ensures) in
-    let begun = enters g.over _ _ _ _ _ _ c.requires.1 (subst (λ (states : List ProgrammeKept). AreBegun c.args.version c.args.matrix.now states) (sym c.deref_mut.ensures.value) c.in_ok-states.ensures) zeros in
-    let untried = enters_untried g.over _ _ _ _ _ _ c.requires.1 (subst (λ (tallies : List Tried). AreUntried c.args.matrix.now tallies) (sym c.deref_mut-2.ensures.value) c.in_ok-tallies.ensures) zeros in
+    let begun = enters g.over _ _ _ _ _ _ _ c.requires.1 (subst (λ (states : List ProgrammeKept). AreBegun c.args.version c.args.matrix.now states) (sym c.deref_mut.ensures.value) c.in_ok-states.ensures) zeros in
+    let untried = enters_untried g.over _ _ _ _ _ _ _ c.requires.1 (subst (λ (tallies : List Tried). AreUntried c.args.matrix.now tallies) (sym c.deref_mut-2.ensures.value) c.in_ok-tallies.ensures) zeros in
     let after = c.apply_in_order.ensures.applied in
     let tallied = c.apply_in_order.ensures.tallied in
-    let all = ended g.over _ _ _ _ _ _ _ _ _ _ c.requires.1 after tallied in
+    let all = ended g.over _ _ _ _ _ _ _ _ _ _ _ c.requires.1 after tallied in
     let same : length c.apply_in_order.new.next ≡ length c.in_ok-next.next.items = after.going.underway.full ∙ (sym begun.going.underway.full ∙ ap length c.deref_mut-3.ensures.value) in
     let same_states : length c.apply_in_order.new.states ≡ length c.in_ok-states.states.items = after.going.shows.full ∙ (sym begun.going.shows.full ∙ ap length c.deref_mut.ensures.value) in
     let same_tallies : length c.apply_in_order.new.tallies ≡ length c.in_ok-tallies.tallies.items = tallied.full ∙ (sym untried.full ∙ ap length c.deref_mut-2.ensures.value) in
@@ -35,13 +35,13 @@ returns-clause-run g c =
 
 pub returns-clause-cost : goal.returns-clause-cost
 returns-clause-cost g c =
-    at_most g.over _ _ _ _ _ _ _ _ _ _ c.requires.1 (c.deref_mut-3.ensures.value ∙ (c.in_ok-next.ensures.items_if_clones_equal (λ y h. search rules) ∙ ap (λ (n : ℕ). replicate n 0) c.len.ensures)) c.apply_in_order.ensures.applied
+    at_most g.over _ _ _ _ _ _ _ _ _ _ _ c.requires.1 (c.deref_mut-3.ensures.value ∙ (c.in_ok-next.ensures.items_if_clones_equal (λ y h. search rules) ∙ ap (λ (n : ℕ). replicate n 0) c.len.ensures)) c.apply_in_order.ensures.applied
 
 pub returns-clause-counted : goal.returns-clause-counted
 returns-clause-counted g c =
     let zeros = c.deref_mut-3.ensures.value ∙ (c.in_ok-next.ensures.items_if_clones_equal (λ y h. search rules) ∙ ap (λ (n : ℕ). replicate n 0) c.len.ensures) in
-    let begun = enters g.over _ _ _ _ _ _ c.requires.1 (subst (λ (states : List ProgrammeKept). AreBegun c.args.version c.args.matrix.now states) (sym c.deref_mut.ensures.value) c.in_ok-states.ensures) zeros in
+    let begun = enters g.over _ _ _ _ _ _ _ c.requires.1 (subst (λ (states : List ProgrammeKept). AreBegun c.args.version c.args.matrix.now states) (sym c.deref_mut.ensures.value) c.in_ok-states.ensures) zeros in
     let after = c.apply_in_order.ensures.applied in
     let same : length c.apply_in_order.new.next ≡ length c.in_ok-next.next.items = after.going.underway.full ∙ (sym begun.going.underway.full ∙ ap length c.deref_mut-3.ensures.value) in
     let next = whole_again c.apply_in_order.new.next c.in_ok-next.next.items c.in_ok-next.next.len same c.in_ok-next.next.ok.0 in
-    exactly g.over _ _ _ _ _ _ _ _ _ _ c.requires.1 zeros after ∙ ap (λ (l : List ℕ). c.args.steps.now + sum l) (sym next)
+    exactly g.over _ _ _ _ _ _ _ _ _ _ _ c.requires.1 zeros after ∙ ap (λ (l : List ℕ). c.args.steps.now + sum l) (sym next)

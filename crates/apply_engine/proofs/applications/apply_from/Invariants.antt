@@ -8,7 +8,7 @@ ghost-offer_next g a = g.over
 
 abbrev pub invariant-loop-states : goal.invariant-loop-states
 invariant-loop-states g l = record {
-  on : IsOn g.over l.register.people l.lists l.fn.next l.next l.states l.first l.cur l.fn.steps l.steps;
+  on : IsOn g.over l.register.people l.lists l.guaranteed l.fn.next l.next l.states l.first l.cur l.fn.steps l.steps;
   tallied : AreTallied g.over l.next l.tallies;
 }
 

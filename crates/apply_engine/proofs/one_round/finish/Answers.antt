@@ -1,25 +1,28 @@
-use Rattle.std.proofs.Common.{List, length, sym, subst}
+use Rattle.std.proofs.Common.{◌≡◌, List, Option, length, sym, subst}
 use Rattle.office_base.specs.declared.person.Person.{Person}
+use Rattle.office_base.specs.declared.seat.Seat.{Seat}
 use Rattle.programme_lists.specs.declared.programme.Programme.{Programme}
-use Rattle.apply_engine.specs.Made.{AreGiven, AreShown}
-use Rattle.apply_engine.proofs.Finishing.{all_shown, made, run_applications}
+use Rattle.apply_engine.specs.Made.{AreShown}
+use Rattle.apply_engine.proofs.Finishing.{all_shown, are_tried, made, run_applications, run_of, seats_over}
 use Rattle.apply_engine.proofs.one_round.finish.Goals as goal
 
-pub seats_of-requires : goal.seats_of-requires
-seats_of-requires g c =
-    let shown = all_shown g.over _ c.in_ok-programmes.programmes (record { set_is = c.requires.1.set_is; ended = c.requires.1.ended; listed = c.in_ok-programmes.ensures }) in
+pub seats_of-requires-clause-shown : goal.seats_of-requires-clause-shown
+seats_of-requires-clause-shown g c =
+    let shown = all_shown g.over _ c.in_ok-programmes.programmes (run_of g.over _ _ _ c.in_ok-programmes.programmes c.requires.1 c.in_ok-programmes.ensures) in
     subst (λ (l : List Programme). AreShown c.args.register.now.people l) (sym c.as_slice.ensures)
-    (subst (λ (people : List Person). AreShown people c.in_ok-programmes.programmes) c.requires.0 shown)
+    (subst (λ (people : List Person). AreShown people c.in_ok-programmes.programmes) c.requires.0.people_is shown)
+
+pub seats_of-requires-clause-tried : goal.seats_of-requires-clause-tried
+seats_of-requires-clause-tried g c = λ (own : List (Option Seat)) full. are_tried g.over _ _ _ _ _ own c.requires.0 c.requires.1.set_is c.requires.1.ended c.deref.ensures.value full
 
 pub returns-clause-made : goal.returns-clause-made
 returns-clause-made g c =
-    let given = subst (λ (l : List Programme). AreGiven c.args.register.now.people l (length l) c.in_ok-seats.seats) c.as_slice.ensures c.in_ok-seats.ensures in
-    let given' = subst (λ (people : List Person). AreGiven people c.in_ok-programmes.programmes (length c.in_ok-programmes.programmes) c.in_ok-seats.seats) (sym c.requires.0) given in
+    let run = run_of g.over _ _ _ c.in_ok-programmes.programmes c.requires.1 c.in_ok-programmes.ensures in
     made g.over _ c.in_ok-programmes.programmes c.in_ok-seats.seats c.args.number c.args.seeks
-    (record { set_is = c.requires.1.set_is; ended = c.requires.1.ended; listed = c.in_ok-programmes.ensures }) given'
+    (record { run = run; seated = seats_over g.over _ _ _ _ _ _ _ _ c.requires.0 c.deref.ensures.value c.as_slice.ensures c.in_ok-seats.ensures })
 
 pub returns-clause-counted : goal.returns-clause-counted
 returns-clause-counted g c =
-    let given = subst (λ (l : List Programme). AreGiven c.args.register.now.people l (length l) c.in_ok-seats.seats) c.as_slice.ensures c.in_ok-seats.ensures in
-    let given' = subst (λ (people : List Person). AreGiven people c.in_ok-programmes.programmes (length c.in_ok-programmes.programmes) c.in_ok-seats.seats) (sym c.requires.0) given in
-    run_applications g.over _ c.in_ok-programmes.programmes c.in_ok-seats.seats (record { set_is = c.requires.1.set_is; ended = c.requires.1.ended; listed = c.in_ok-programmes.ensures }) given'
+    let run = run_of g.over _ _ _ c.in_ok-programmes.programmes c.requires.1 c.in_ok-programmes.ensures in
+    run_applications g.over _ c.in_ok-programmes.programmes c.in_ok-seats.seats
+    (record { run = run; seated = seats_over g.over _ _ _ _ _ _ _ _ c.requires.0 c.deref.ensures.value c.as_slice.ensures c.in_ok-seats.ensures })
