@@ -8,6 +8,7 @@ use Rattle.office_base.specs.declared.category_steps.CategoryStep.{CategoryStep}
 use Rattle.office_base.specs.declared.person.Category.{Category}
 use Rattle.office_base.specs.declared.person.ListId.{ListId}
 use Rattle.office_base.specs.declared.person.Person.{Person}
+use Rattle.office_base.specs.declared.seat.SeatKind.TheVariants.{Under}
 use Rattle.office_base.specs.declared.step.StepKind.{StepKind}
 use Rattle.office_base.specs.declared.step.StepKind.TheVariants.{Open, Dereserved}
 use Rattle.office_base.specs.StepNumbers.{step_number}
@@ -58,7 +59,7 @@ refusal list programme person =
 -- an admission, or else a refusal
 abbrev pub reason_from : Option StepKind → Reason → Reason
 reason_from None refused = refused
-reason_from (Some step) refused = Admitted step
+reason_from (Some step) refused = Admitted (Under step)
 
 -- under which step the programme admits the person, or what counted against the person
 abbrev pub reason_of : ListId → Programme → Person → Reason

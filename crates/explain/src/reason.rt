@@ -8,7 +8,9 @@ ghost use Rattle.seat_matrix.specs.Matrix.{list_in};
 ghost use Rattle.explain.specs.Reason.{admitted_in, category_step, has_worse, reason_of, refusal, why_at};
 
 use dereserve::is_common;
-use office_base::{CATEGORY_STEPS, Category, ListId, Person, ProgId, StepKind, step_number};
+use office_base::{
+    CATEGORY_STEPS, Category, ListId, Person, ProgId, SeatKind, StepKind, step_number,
+};
 use programme_lists::{Programme, StepList};
 use reasons::{Reason, StepWhy};
 use seat_matrix::Matrix;
@@ -21,7 +23,7 @@ pub fn why(matrix: &Matrix, prog: ProgId, programme: &Programme, person: &Person
 {
     let list = matrix.programme(prog).list;
     match admitted_in(&programme.steps, person) {
-        Some(step) => Reason::Admitted(step),
+        Some(step) => Reason::Admitted(SeatKind::Under(step)),
         None => refusal(list, programme, person),
     }
 }

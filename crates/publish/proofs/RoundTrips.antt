@@ -5,14 +5,14 @@ use Rattle.std.specs.List.{AllByRecursion, flat_map}
 use Rattle.std.specs.Prelude.{codes}
 use Rattle.kept_rows.specs.declared.rows.AllotRow.{AllotRow}
 use Rattle.office_base.specs.Lists.{IsSublist}
-use Rattle.office_base.specs.declared.asks.Seat.{Seat}
+use Rattle.office_base.specs.declared.seat.Seat.{Seat}
 use Rattle.office_base.specs.declared.person.Person.{Person}
-use Rattle.office_base.specs.declared.step.StepKind.{StepKind}
-use Rattle.office_text.proofs.NamesLemmas.{one_name}
+use Rattle.office_base.specs.declared.seat.SeatKind.{SeatKind}
+use Rattle.office_text.proofs.NamesLemmas.{one_kind_name}
 use Rattle.published_texts.specs.Texts.{AreSeatsOf, allot_line, allot_lines, code_in, round_head}
 use Rattle.rounds.specs.Round.{seated}
 use Rattle.seat_matrix.specs.Matrix.{SeatTable}
-use Rattle.step_lines.specs.Lines.{step_name}
+use Rattle.step_lines.specs.Lines.{seat_kind_name}
 use Rattle.text_readers.specs.Parts.{AreSmall}
 use Rattle.text_readers.proofs.KnownLemmas.{code-clear, code-one}
 use Rattle.text_readers.proofs.NumberLemmas.{digits-clear}
@@ -69,7 +69,7 @@ finals-read table people number rows are = record { rows = are; same = refl }
 -- ---- what is read is one value
 
 -- a row of its parts
-abbrev row_with : ℕ → ℕ → ℕ → StepKind → AllotRow
+abbrev row_with : ℕ → ℕ → ℕ → SeatKind → AllotRow
 row_with round cand prog step = record { round = round; cand = record { 0 = cand }; prog = record { 0 = prog }; step = step }
 
 module _ (sort : Sort) (table : SeatTable) (people : List Person) (distinct : AreDistinct table people) (number : ℕ) where
@@ -82,10 +82,10 @@ module _ (sort : Sort) (table : SeatTable) (people : List Person) (distinct : Ar
       let its-row : IsRow (word sort) table line other.cand.0 other.prog.0 other.step = record { same = refl; within = below } in
       let cand = row-one (word sort) table line row.cand.0 row.prog.0 row.step other.cand.0 other.prog.0 other.step distinct.spelled small fits is its-row in
       let (code, name) = row-code (word sort) table line other.cand.0 other.prog.0 other.step distinct.spelled fits its-row
-      (decimal row.cand.0 ++ 32 ∷ (code_in table row.prog.0 ++ 32 ∷ step_name row.step)) (decimal row.cand.0) (code_in table row.prog.0 ++ 32 ∷ step_name row.step) (code_in table row.prog.0) (step_name row.step)
+      (decimal row.cand.0 ++ 32 ∷ (code_in table row.prog.0 ++ 32 ∷ seat_kind_name row.step)) (decimal row.cand.0) (code_in table row.prog.0 ++ 32 ∷ seat_kind_name row.step) (code_in table row.prog.0) (seat_kind_name row.step)
       (sym e) refl (digits-clear 32 row.cand.0 (omega (arith, small)) refl) refl (code-clear 32 (code_in table row.prog.0) refl (distinct.spelled row.prog.0 within)) in
       let prog = code-one table distinct.codes row.prog.0 other.prog.0 within below code in
-      let step = one_name row.step other.step name in
+      let step = one_kind_name row.step other.step name in
       ap (λ z. row_with z row.cand.0 row.prog.0 row.step) (mine ∙ sym its) ∙ ap (λ z. row_with other.round z row.prog.0 row.step) cand
       ∙ ap (λ z. row_with other.round other.cand.0 z row.step) prog ∙ ap (λ z. row_with other.round other.cand.0 other.prog.0 z) step
 

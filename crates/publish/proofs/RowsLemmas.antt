@@ -8,10 +8,10 @@ use Rattle.std.specs.Option.{unwrap_or}
 use Rattle.kept_rows.specs.declared.rows.AllotRow.{AllotRow}
 use Rattle.office_base.specs.Lists.{IsSublist}
 use Rattle.office_base.specs.declared.person.Person.{Person}
-use Rattle.office_base.specs.declared.step.StepKind.{StepKind}
+use Rattle.office_base.specs.declared.seat.SeatKind.{SeatKind}
 use Rattle.published_texts.specs.Texts.{code_in}
 use Rattle.seat_matrix.specs.Matrix.{SeatTable}
-use Rattle.step_lines.specs.Lines.{step_name}
+use Rattle.step_lines.specs.Lines.{seat_kind_name}
 use Rattle.text_readers.specs.Parts.{AreSmall, AreSpelled, is_prefix}
 use Rattle.text_readers.specs.Reading.{Begins, EndsWithLines, HasNo, IsRefused, Leads}
 use Rattle.text_readers.proofs.PartsLemmas.{cut-one, has-no-tested, has-one}
@@ -45,12 +45,12 @@ empty-later sort table text [] e is = (refl, is)
 empty-later sort table text (row ∷ later) e is = absurd (omega (arith, e))
 
 -- the line of a row with its end
-pub row-assoc : (word : List ℕ) (table : SeatTable) (id prog : ℕ) (step : StepKind)
-    → row_words word table id prog step ++ 10 ∷ [] ≡ word ++ (decimal id ++ 32 ∷ (code_in table prog ++ 32 ∷ (step_name step ++ 10 ∷ [])))
+pub row-assoc : (word : List ℕ) (table : SeatTable) (id prog : ℕ) (step : SeatKind)
+    → row_words word table id prog step ++ 10 ∷ [] ≡ word ++ (decimal id ++ 32 ∷ (code_in table prog ++ 32 ∷ (seat_kind_name step ++ 10 ∷ [])))
 row-assoc word table id prog step =
-    append_assoc word (decimal id ++ 32 ∷ (code_in table prog ++ 32 ∷ step_name step)) (10 ∷ [])
-    ∙ ap (λ z. word ++ z) (append_assoc (decimal id) (32 ∷ (code_in table prog ++ 32 ∷ step_name step)) (10 ∷ [])
-    ∙ ap (λ z. decimal id ++ 32 ∷ z) (append_assoc (code_in table prog) (32 ∷ step_name step) (10 ∷ [])))
+    append_assoc word (decimal id ++ 32 ∷ (code_in table prog ++ 32 ∷ seat_kind_name step)) (10 ∷ [])
+    ∙ ap (λ z. word ++ z) (append_assoc (decimal id) (32 ∷ (code_in table prog ++ 32 ∷ seat_kind_name step)) (10 ∷ [])
+    ∙ ap (λ z. decimal id ++ 32 ∷ z) (append_assoc (code_in table prog) (32 ∷ seat_kind_name step) (10 ∷ [])))
 
 -- Rows whose text begins with a piece.
 record HasPiece (sort : Sort) (table : SeatTable) (people : List Person) (number left : ℕ) (piece : List ℕ) : Type 0 where
@@ -99,7 +99,7 @@ rows-piece word table left piece row later e within begins (p ∷ people) (inr (
         prog = row.prog.0;
         step = row.step;
         within = within;
-        begins = subst (λ z. is_prefix piece (word ++ (decimal z ++ 32 ∷ (code_in table row.prog.0 ++ 32 ∷ (step_name row.step ++ 10 ∷ [])))) ≡ true) id
+        begins = subst (λ z. is_prefix piece (word ++ (decimal z ++ 32 ∷ (code_in table row.prog.0 ++ 32 ∷ (seat_kind_name row.step ++ 10 ∷ [])))) ≡ true) id
             (ap (is_prefix piece) (sym (row-assoc word table row.cand.0 row.prog.0 row.step)) ∙ begins);
       },
     )
@@ -124,7 +124,7 @@ module _ (sort : Sort) (table : SeatTable) (people : List Person) (number : ℕ)
         let (row, later, next, first, row-is, after) = line-row rest read is in
         never row.cand.0 row.prog.0 row.step first.small row-is
 
-    module _ (cand prog : ℕ) (step : StepKind) (fits : cand < 2 ^ 32) (row-is : IsRow (word sort) table line cand prog step) where
+    module _ (cand prog : ℕ) (step : SeatKind) (fits : cand < 2 ^ 32) (row-is : IsRow (word sort) table line cand prog step) where
       -- one whose candidate is none of the people too
       pub cand-refused : people_after cand people ≡ None → IsRefused (IsRest sort table people number left rows) line
       cand-refused gone rest read is =

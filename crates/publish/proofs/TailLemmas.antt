@@ -6,7 +6,7 @@ use Rattle.std.specs.Option.{unwrap_or}
 use Rattle.kept_rows.specs.declared.rows.AllotRow.{AllotRow}
 use Rattle.office_base.specs.Lists.{IsSublist}
 use Rattle.office_base.specs.declared.person.Person.{Person}
-use Rattle.office_base.specs.declared.step.StepKind.TheVariants.{Open}
+use Rattle.office_base.specs.declared.seat.SeatKind.TheVariants.{Kept}
 use Rattle.seat_matrix.specs.Matrix.{SeatTable}
 use Rattle.text_readers.specs.Parts.{AreSmall}
 use Rattle.text_readers.proofs.PartsLemmas.{heads, tails}
@@ -91,7 +91,7 @@ made table [] number (suc n) can = absurd (omega (arith, can.few))
 made table (p ∷ people) number (suc n) can =
     let some : 0 < length table.programmes = can.some (omega arith) in
     let (rows, are, count) = made table people number n (record { few = omega (arith, can.few); some = λ _. some }) in (
-      record { round = number; cand = p.id; prog = record { 0 = 0 }; step = Open } ∷ rows,
+      record { round = number; cand = p.id; prog = record { 0 = 0 }; step = Kept } ∷ rows,
       record { order = inr (cands rows, refl, are.order); known = ((some, refl), are.known) },
       ap suc count,
     )

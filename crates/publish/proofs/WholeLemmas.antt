@@ -7,7 +7,7 @@ use Rattle.kept_rows.specs.declared.rows.AllotRow.{AllotRow}
 use Rattle.office_base.specs.declared.person.Person.{Person}
 use Rattle.published_texts.specs.Texts.{admit_line, code_in, final_head, final_text, round_head, seat_line}
 use Rattle.seat_matrix.specs.Matrix.{SeatTable}
-use Rattle.step_lines.specs.Lines.{step_name}
+use Rattle.step_lines.specs.Lines.{seat_kind_name}
 use Rattle.text_readers.specs.Reading.{Begins, IsTextFault}
 use Rattle.text_readers.specs.declared.fault.TextFault.{TextFault}
 use Rattle.text_readers.proofs.ReadLemmas.{fault-on}
@@ -30,11 +30,11 @@ some-text Final table people known =
 
 -- ---- lines
 
-seat-assoc : (table : SeatTable) (cand prog : ℕ) (step : _) → seat_line table cand prog step ≡ decimal cand ++ 32 ∷ (code_in table prog ++ 32 ∷ (step_name step ++ 10 ∷ []))
+seat-assoc : (table : SeatTable) (cand prog : ℕ) (step : _) → seat_line table cand prog step ≡ decimal cand ++ 32 ∷ (code_in table prog ++ 32 ∷ (seat_kind_name step ++ 10 ∷ []))
 seat-assoc table cand prog step =
     let d = decimal cand in
     let c = code_in table prog in
-    let s = step_name step in
+    let s = seat_kind_name step in
     append_assoc (d ++ 32 ∷ [] ++ c ++ 32 ∷ []) s (10 ∷ [])
     ∙ append_assoc (d ++ 32 ∷ [] ++ c) (32 ∷ []) (s ++ 10 ∷ [])
     ∙ append_assoc (d ++ 32 ∷ []) c (32 ∷ (s ++ 10 ∷ []))

@@ -2,23 +2,23 @@
 use Rattle.std.specs.Prelude.{◌≡◌, ◌<◌, ◌≤◌, ◌+◌, ◌^◌, ◌⊎◌, ℕ, true, List, [], ◌∷◌, ◌++◌, length, codes}
 use Rattle.std.specs.Fmt.{decimal}
 use Rattle.office_base.specs.declared.person.Person.{Person}
-use Rattle.office_base.specs.declared.step.StepKind.{StepKind}
+use Rattle.office_base.specs.declared.seat.SeatKind.{SeatKind}
 use Rattle.published_texts.specs.Texts.{code_in}
 use Rattle.seat_matrix.specs.Matrix.{SeatTable}
-use Rattle.step_lines.specs.Lines.{step_name}
+use Rattle.step_lines.specs.Lines.{seat_kind_name}
 use Rattle.text_readers.specs.Parts.{is_prefix}
 use Rattle.publish.specs.Rows.{IsNumber, head_words}
 use Rattle.publish.specs.declared.sort.Sort.{Sort}
 
--- a step and the end of the line
-abbrev pub BeginsStep : List ℕ → Type 0
-BeginsStep piece = (step : StepKind) × (is_prefix piece (step_name step ++ 10 ∷ []) ≡ true)
+-- a kind of seat and the end of the line
+abbrev pub BeginsKind : List ℕ → Type 0
+BeginsKind piece = (kind : SeatKind) × (is_prefix piece (seat_kind_name kind ++ 10 ∷ []) ≡ true)
 
--- the code of this programme and a step
+-- the code of this programme and a kind of seat
 abbrev pub BeginsCode : SeatTable → ℕ → List ℕ → Type 0
-BeginsCode table prog piece = (step : StepKind) × (is_prefix piece (code_in table prog ++ 32 ∷ (step_name step ++ 10 ∷ [])) ≡ true)
+BeginsCode table prog piece = (kind : SeatKind) × (is_prefix piece (code_in table prog ++ 32 ∷ (seat_kind_name kind ++ 10 ∷ [])) ≡ true)
 
--- the code of a programme and a step
+-- the code of a programme and a kind of seat
 pub record BeginsSeat (table : SeatTable) (piece : List ℕ) : Type 0 where
   pub prog : ℕ
   pub within : prog < length table.programmes
@@ -27,9 +27,9 @@ pub record BeginsSeat (table : SeatTable) (piece : List ℕ) : Type 0 where
 -- a row of this candidate
 pub record BeginsRow (word : List ℕ) (table : SeatTable) (id : ℕ) (piece : List ℕ) : Type 0 where
   pub prog : ℕ
-  pub step : StepKind
+  pub step : SeatKind
   pub within : prog < length table.programmes
-  pub begins : is_prefix piece (word ++ (decimal id ++ 32 ∷ (code_in table prog ++ 32 ∷ (step_name step ++ 10 ∷ [])))) ≡ true
+  pub begins : is_prefix piece (word ++ (decimal id ++ 32 ∷ (code_in table prog ++ 32 ∷ (seat_kind_name step ++ 10 ∷ [])))) ≡ true
 
 -- a row of one of the people after whom so many rows can follow
 abbrev pub BeginsRows : List ℕ → SeatTable → ℕ → List Person → List ℕ → Type 0

@@ -1,15 +1,15 @@
--- The texts of rounds and of final admissions as they are read: rows of candidates, programmes and steps.
+-- The texts of rounds and of final admissions as they are read: rows of candidates, programmes and kinds of seats.
 use Rattle.std.specs.Prelude.{◌≡◌, ◌<◌, ◌≤◌, ◌^◌, ◌==◌, ℕ, List, [], ◌∷◌, ◌++◌, Option, Some, None, bytes_eq, length, find, map, codes, if◌then◌else◌}
 use Rattle.std.specs.Fmt.{decimal}
 use Rattle.std.specs.List.{AllByRecursion, flat_map}
 use Rattle.kept_rows.specs.declared.rows.AllotRow.{AllotRow}
-use Rattle.office_base.specs.CategorySteps.{all_steps}
+use Rattle.office_base.specs.SeatKinds.{all_seat_kinds}
 use Rattle.office_base.specs.Lists.{IsSublist}
 use Rattle.office_base.specs.declared.person.Person.{Person}
-use Rattle.office_base.specs.declared.step.StepKind.{StepKind}
+use Rattle.office_base.specs.declared.seat.SeatKind.{SeatKind}
 use Rattle.published_texts.specs.Texts.{code_in, final_text, round_head, seat_line}
 use Rattle.seat_matrix.specs.Matrix.{SeatTable}
-use Rattle.step_lines.specs.Lines.{step_name}
+use Rattle.step_lines.specs.Lines.{seat_kind_name}
 use Rattle.publish.specs.declared.parts.Row.{Row}
 use Rattle.publish.specs.declared.reads.FinalRead.{FinalRead}
 use Rattle.publish.specs.declared.reads.RoundRead.{RoundRead}
@@ -43,22 +43,22 @@ pub record IsRoundText (table : SeatTable) (people : List Person) (text : List �
 
 -- ---- the same texts by their lines
 
--- the step whose name the text is
-abbrev pub written_step : List ℕ → Option StepKind
-written_step text = find (λ step. bytes_eq text (step_name step)) all_steps
+-- the kind of seat whose name the text is
+abbrev pub written_kind : List ℕ → Option SeatKind
+written_kind text = find (λ kind. bytes_eq text (seat_kind_name kind)) all_seat_kinds
 
--- a candidate, a programme and a step, with the first word of their line
-abbrev pub row_words : List ℕ → SeatTable → ℕ → ℕ → StepKind → List ℕ
-row_words word table cand prog step = word ++ (decimal cand ++ 32 ∷ (code_in table prog ++ 32 ∷ step_name step))
+-- a candidate, a programme and the kind of the seat, with the first word of their line
+abbrev pub row_words : List ℕ → SeatTable → ℕ → ℕ → SeatKind → List ℕ
+row_words word table cand prog step = word ++ (decimal cand ++ 32 ∷ (code_in table prog ++ 32 ∷ seat_kind_name step))
 
 -- The line has these parts, and the programme is one of the matrix.
-pub record IsRow (word : List ℕ) (table : SeatTable) (line : List ℕ) (cand prog : ℕ) (step : StepKind) : Type 0 where
+pub record IsRow (word : List ℕ) (table : SeatTable) (line : List ℕ) (cand prog : ℕ) (step : SeatKind) : Type 0 where
   pub same : line ≡ row_words word table cand prog step
   pub within : prog < length table.programmes
 
--- no candidate, programme and step have this line
+-- no candidate, programme and kind of seat have this line
 abbrev pub IsNoRow : List ℕ → SeatTable → List ℕ → Type 0
-IsNoRow word table line = (cand prog : ℕ) (step : StepKind) → cand < 2 ^ 32 → IsRow word table line cand prog step → ⊥
+IsNoRow word table line = (cand prog : ℕ) (step : SeatKind) → cand < 2 ^ 32 → IsRow word table line cand prog step → ⊥
 
 -- the people after the first of this id
 abbrev pub people_after : ℕ → List Person → Option (List Person)

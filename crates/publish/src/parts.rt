@@ -2,30 +2,30 @@
 ghost use Rattle.std.specs.Prelude.{◌≡◌, ◌<◌, ◌^◌, IfNone, IfSome};
 ghost use Rattle.std.specs.Option.{option_map};
 ghost use Rattle.text_readers.specs.Parts.{AreSpelled};
-ghost use Rattle.publish.specs.Rows.{IsNoRow, IsRow, people_after, written_step};
+ghost use Rattle.publish.specs.Rows.{IsNoRow, IsRow, people_after, written_kind};
 
-use office_base::{ALL_STEPS, CandId, Person, ProgId, StepKind};
+use office_base::{ALL_SEAT_KINDS, CandId, Person, ProgId, SeatKind};
 use office_text::laws::numbers_are_inverse;
 use office_text::read_number;
 use seat_matrix::Matrix;
-use step_lines::step_name;
+use step_lines::seat_kind_name;
 use text_readers::{after, read_programme, split_at_byte};
 
-/// Holds a row of a text: a candidate, a programme and a step.
+/// Holds a row of a text: a candidate, a programme and the kind of the seat.
 #[derive(Clone, Copy)]
 pub(crate) struct Row {
     pub(crate) cand: CandId,
     pub(crate) prog: ProgId,
-    pub(crate) step: StepKind,
+    pub(crate) step: SeatKind,
 }
 
-/// Returns the step that a text spells as it is written.
-fn written_step(text: &[u8]) -> Option<StepKind>
-    ensures { result ≡ written_step text.now }
+/// Returns the kind of seat that a text spells as it is written.
+fn written_kind(text: &[u8]) -> Option<SeatKind>
+    ensures { result ≡ written_kind text.now }
 {
-    for step in ALL_STEPS {
-        if text == step_name(step).as_bytes() {
-            return Some(step);
+    for kind in ALL_SEAT_KINDS {
+        if text == seat_kind_name(kind).as_bytes() {
+            return Some(kind);
         }
     }
     None
@@ -45,7 +45,7 @@ pub(crate) fn read_row(matrix: &Matrix, word: &[u8], line: &[u8]) -> Option<Row>
     let (code, step) = split_at_byte(rest, b' ')?;
     let cand = read_number(cand, 0, u32::MAX)?;
     let prog = read_programme(matrix, code)?;
-    let step = written_step(step)?;
+    let step = written_kind(step)?;
     Some(Row {
         cand: CandId(cand),
         prog,

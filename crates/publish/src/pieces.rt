@@ -1,26 +1,26 @@
 // What a piece of a line, whose end is missing, may begin.
 ghost use Rattle.std.specs.Prelude.{◌<◌, IsTrue, ◌↔◌, length};
-ghost use Rattle.publish.specs.Pieces.{BeginsCode, BeginsRow, BeginsRows, BeginsSeat, BeginsStep};
+ghost use Rattle.publish.specs.Pieces.{BeginsCode, BeginsKind, BeginsRow, BeginsRows, BeginsSeat};
 
 use itoa::Buffer;
-use office_base::{ALL_STEPS, CandId, Person, ProgId};
+use office_base::{ALL_SEAT_KINDS, CandId, Person, ProgId};
 use seat_matrix::Matrix;
-use step_lines::step_name;
+use step_lines::seat_kind_name;
 use text_readers::{begins_whole, left_after};
 
-/// Returns whether a piece begins the name of a step with the end of the line.
-fn begins_step(piece: &[u8]) -> bool
-    ensures { IsTrue result ↔ BeginsStep piece.now }
+/// Returns whether a piece begins the name of a kind of seat with the end of the line.
+fn begins_kind(piece: &[u8]) -> bool
+    ensures { IsTrue result ↔ BeginsKind piece.now }
 {
-    for step in ALL_STEPS {
-        if begins_whole(piece, step_name(step).as_bytes()) {
+    for kind in ALL_SEAT_KINDS {
+        if begins_whole(piece, seat_kind_name(kind).as_bytes()) {
             return true;
         }
     }
     false
 }
 
-/// Returns whether a piece begins the code of this programme with a step.
+/// Returns whether a piece begins the code of this programme with the kind of a seat.
 fn begins_code(matrix: &Matrix, prog: ProgId, piece: &[u8]) -> bool
     requires { prog.0 < length matrix.now.programmes }
     ensures { IsTrue result ↔ BeginsCode matrix.now prog.0 piece.now }
@@ -28,14 +28,14 @@ fn begins_code(matrix: &Matrix, prog: ProgId, piece: &[u8]) -> bool
     let code = matrix.code(prog);
     match left_after(piece, code.bytes()) {
         Some(rest) => match left_after(rest, b" ") {
-            Some(rest) => begins_step(rest),
+            Some(rest) => begins_kind(rest),
             None => false,
         },
         None => false,
     }
 }
 
-/// Returns whether a piece begins the code of some programme with a step.
+/// Returns whether a piece begins the code of some programme with the kind of a seat.
 fn begins_seat(matrix: &Matrix, piece: &[u8]) -> bool
     ensures { IsTrue result ↔ BeginsSeat matrix.now piece.now }
 {

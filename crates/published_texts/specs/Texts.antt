@@ -4,9 +4,9 @@ use Rattle.std.specs.Fmt.{decimal}
 use Rattle.std.specs.List.{AllByRecursion, flat_map}
 use Rattle.std.specs.Option.{option_map}
 use Rattle.kept_rows.specs.declared.rows.AllotRow.{AllotRow}
-use Rattle.office_base.specs.declared.asks.Seat.{Seat}
+use Rattle.office_base.specs.declared.seat.Seat.{Seat}
 use Rattle.office_base.specs.declared.person.Person.{Person}
-use Rattle.office_base.specs.declared.step.StepKind.{StepKind}
+use Rattle.office_base.specs.declared.seat.SeatKind.{SeatKind}
 use Rattle.programme_lists.specs.declared.programme.Programme.{Programme}
 use Rattle.programme_lists.specs.declared.programme.StepList.{StepList}
 use Rattle.reasons.specs.declared.reason.Reason.{Reason}
@@ -17,15 +17,15 @@ use Rattle.reasons.specs.declared.reason.WhyAnswer.TheVariants.{Reason as Reason
 use Rattle.rounds.specs.Round.{seated}
 use Rattle.rounds.specs.declared.round.Round.{Round}
 use Rattle.seat_matrix.specs.Matrix.{SeatTable}
-use Rattle.step_lines.specs.Lines.{step_lines, step_name}
+use Rattle.step_lines.specs.Lines.{seat_kind_name, step_lines, step_name}
 
 -- the code of the programme of this number
 abbrev pub code_in : SeatTable → ℕ → List ℕ
 code_in table prog = unwrap_or (option_map (λ held. held.0) (slice_get table.programmes prog)) []
 
--- the rest of the line of a seat: the candidate, the programme's code and the step
-abbrev pub seat_line : SeatTable → ℕ → ℕ → StepKind → List ℕ
-seat_line table cand prog step = decimal cand ++ codes " " ++ code_in table prog ++ codes " " ++ step_name step ++ codes "\n"
+-- the rest of the line of a seat: the candidate, the programme's code and the kind of the seat
+abbrev pub seat_line : SeatTable → ℕ → ℕ → SeatKind → List ℕ
+seat_line table cand prog step = decimal cand ++ codes " " ++ code_in table prog ++ codes " " ++ seat_kind_name step ++ codes "\n"
 
 -- ---- a round
 
@@ -100,9 +100,9 @@ abbrev pub why_line : Option StepWhy → List ℕ
 why_line None = []
 why_line (Some why) = step_why why
 
--- the step that admits, or what counted against the person at each step
+-- the step that admits, or that a seat is kept, or what counted against the person at each step
 abbrev pub reason_lines : Reason → List ℕ
-reason_lines (Admitted step) = codes " admitted " ++ step_name step ++ codes "\n"
+reason_lines (Admitted step) = codes " admitted " ++ seat_kind_name step ++ codes "\n"
 reason_lines (Refused at_open at_category at_dereserved) = codes " refused\n" ++ why_line at_open ++ why_line at_category ++ why_line at_dereserved ++ codes "end why\n"
 
 -- the programme of the better seat

@@ -8,7 +8,7 @@ use office_text::push_number;
 use reasons::{Reason, StepWhy, WhyAnswer};
 use seat_matrix::Matrix;
 use std::alloc::Global;
-use step_lines::step_name;
+use step_lines::{seat_kind_name, step_name};
 
 /// The text of the answer to why this candidate has no seat in the programme, or has one. The programmes that it names are of the
 /// matrix.
@@ -54,14 +54,14 @@ fn push_better(out: &mut Text, matrix: &Matrix, held: ProgId) -> Result<(), OutO
     out.extend_from_slice(b"\n")
 }
 
-/// Appends the step that admits, or what counted against the person at each step.
+/// Appends the step that admits, or that a seat is kept, or what counted against the person at each step.
 fn push_reason(out: &mut Text, reason: &Reason) -> Result<(), OutOfMemory>
     ensures { OnOk result (out.new ≡ out.old ++ reason_lines reason.now) }
 {
     match reason {
         Reason::Admitted(step) => {
             out.extend_from_slice(b" admitted ")?;
-            out.extend_from_slice(step_name(*step).as_bytes())?;
+            out.extend_from_slice(seat_kind_name(*step).as_bytes())?;
             out.extend_from_slice(b"\n")
         }
         Reason::Refused {

@@ -2,10 +2,10 @@
 ghost use Rattle.std.specs.Prelude.{◌≡◌, ◌<◌, ◌++◌, OnOk, length};
 ghost use Rattle.published_texts.specs.Texts.{code_in, seat_line};
 
-use office_base::{CandId, OutOfMemory, ProgId, StepKind, Text};
+use office_base::{CandId, OutOfMemory, ProgId, SeatKind, Text};
 use office_text::push_number;
 use seat_matrix::Matrix;
-use step_lines::step_name;
+use step_lines::seat_kind_name;
 
 /// The most bytes of a line of a seat, with its first word.
 pub(crate) const LONGEST_LINE: usize = 39;
@@ -28,7 +28,7 @@ pub(crate) fn push_seat(
     matrix: &Matrix,
     cand: CandId,
     prog: ProgId,
-    step: StepKind,
+    step: SeatKind,
 ) -> Result<(), OutOfMemory>
     requires { prog.0 < length matrix.now.programmes }
     ensures { OnOk result (out.new ≡ out.old ++ seat_line matrix.now cand.0 prog.0 step) }
@@ -37,6 +37,6 @@ pub(crate) fn push_seat(
     out.push(b' ')?;
     push_code(out, matrix, prog)?;
     out.push(b' ')?;
-    out.extend_from_slice(step_name(step).as_bytes())?;
+    out.extend_from_slice(seat_kind_name(step).as_bytes())?;
     out.push(b'\n')
 }

@@ -1,5 +1,5 @@
 // What counted against a person, and the answers to why.
-use office_base::{ProgId, StepKind};
+use office_base::{ProgId, SeatKind, StepKind};
 
 /// Says what counted against a person at one step of a programme: its seats, and whether somebody worse in merit was
 /// admitted there for a protection.
@@ -10,12 +10,12 @@ pub struct StepWhy {
     pub worse: bool,
 }
 
-/// Says under which step a programme admits a person, or what counted against the person. A refusal has an entry
+/// Says how a programme admits a person: under a step, or beyond its seats. Or it says what counted against the person. A refusal has an entry
 /// exactly when the person competed for the seats of that step: the open ones, those of the candidate's own category,
 /// and those that categories left unfilled.
 #[derive(Clone, Copy, PartialEq, Eq)]
 pub enum Reason {
-    Admitted(StepKind),
+    Admitted(SeatKind),
     Refused {
         at_open: Option<StepWhy>,
         at_category: Option<StepWhy>,

@@ -11,7 +11,9 @@ use Rattle.office_base.specs.Certificate.{slot_of}
 use Rattle.office_base.specs.Codes.{is_code, is_code_byte}
 use Rattle.office_base.specs.Limits.{longest_code, shortest_code}
 use Rattle.office_base.specs.Person.{has_trait}
-use Rattle.office_base.specs.declared.asks.Seat.{Seat}
+use Rattle.office_base.specs.declared.seat.Seat.{Seat}
+use Rattle.office_base.specs.declared.seat.SeatKind.{SeatKind}
+use Rattle.office_base.specs.declared.seat.SeatKind.TheVariants.{Kept, Under}
 use Rattle.office_base.specs.declared.person.Person.{Person}
 use Rattle.office_base.specs.declared.person.Place.{Place}
 use Rattle.office_base.specs.declared.person.Place.TheVariants.{Absent, Common, Relaxed}
@@ -36,7 +38,7 @@ use Rattle.reply_texts.specs.Replies.{AreShownOf, cutoff_line, cutoff_word, cuto
 use Rattle.rounds.specs.Round.{seated}
 use Rattle.rounds.specs.declared.round.Round.{Round}
 use Rattle.seat_matrix.specs.Matrix.{SeatTable}
-use Rattle.step_lines.specs.Lines.{step_name, slot_letter, admitted_line, count_lines, step_lines}
+use Rattle.step_lines.specs.Lines.{seat_kind_name, step_name, slot_letter, admitted_line, count_lines, step_lines}
 
 -- ---- bytes
 
@@ -75,6 +77,10 @@ number n = some_digits 64 n [] IsAscii-nil
 
 step : (kind : StepKind) → IsAscii (step_name kind)
 step kind = words (step_name kind) (each_step (λ k. list_all (λ b. nat_lt b 128) (step_name k)) refl kind)
+
+seat_kind : (kind : SeatKind) → IsAscii (seat_kind_name kind)
+seat_kind (Under kind) = step kind
+seat_kind Kept = words (seat_kind_name Kept) refl
 
 a_letter : (slot : Option ℕ) → slot_letter slot < 128
 a_letter None = omega arith
@@ -137,15 +143,15 @@ ascii_list table round prog programme code =
 
 -- ---- rounds and final admissions
 
-line_of_seat : (table : SeatTable) (cand prog : ℕ) (kind : StepKind) → IsAscii (code_in table prog) → IsAscii (seat_line table cand prog kind)
+line_of_seat : (table : SeatTable) (cand prog : ℕ) (kind : SeatKind) → IsAscii (code_in table prog) → IsAscii (seat_line table cand prog kind)
 line_of_seat table cand prog kind code =
     let a = decimal cand ++ codes " " in
     let b = a ++ code_in table prog in
     let c = b ++ codes " " in
-    let d = c ++ step_name kind in
+    let d = c ++ seat_kind_name kind in
     let sa : IsAscii a = say (decimal cand) (codes " ") (number cand) refl in
     let sb : IsAscii b = then_text a (code_in table prog) sa code in
-    let sd : IsAscii d = then_text c (step_name kind) (say b (codes " ") sb refl) (step kind) in
+    let sd : IsAscii d = then_text c (seat_kind_name kind) (say b (codes " ") sb refl) (seat_kind kind) in
     say d (codes "\n") sd refl
 
 an_allot : (table : SeatTable) (cand : ℕ) (seat : Option Seat) → ArePlainCodes table → IsSeatOf table seat → IsAscii (allot_line table cand seat)
@@ -262,7 +268,7 @@ a_why None = IsAscii-nil
 a_why (Some why) = a_step_why why
 
 a_reason : (reason : Reason) → IsAscii (reason_lines reason)
-a_reason (Admitted kind) = say (codes " admitted " ++ step_name kind) (codes "\n") (then_text (codes " admitted ") (step_name kind) (words (codes " admitted ") refl) (step kind)) refl
+a_reason (Admitted kind) = say (codes " admitted " ++ seat_kind_name kind) (codes "\n") (then_text (codes " admitted ") (seat_kind_name kind) (words (codes " admitted ") refl) (seat_kind kind)) refl
 a_reason (Refused at_open at_category at_dereserved) =
     let a = codes " refused\n" ++ why_line at_open in
     let b = a ++ why_line at_category in

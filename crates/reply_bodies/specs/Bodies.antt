@@ -6,7 +6,7 @@ use Rattle.serde_json.specs.Written.{compact_text}
 use Rattle.kept_rows.specs.declared.rows.AllotRow.{AllotRow}
 use Rattle.kept_rows.specs.declared.rows.AnswerRow.{AnswerRow}
 use Rattle.office_base.specs.declared.asks.Choice.{Choice}
-use Rattle.office_base.specs.declared.asks.Seat.{Seat}
+use Rattle.office_base.specs.declared.seat.Seat.{Seat}
 use Rattle.office_base.specs.declared.person.Person.{Person}
 use Rattle.office_base.specs.declared.person.Place.{Place}
 use Rattle.office_base.specs.declared.person.Place.TheVariants.{Absent, Common, Relaxed}
@@ -25,7 +25,7 @@ use Rattle.reply_texts.specs.Replies.{category_name, choice_name, cutoffs_text, 
 use Rattle.round_options.specs.declared.standing.Standing.{Standing}
 use Rattle.rounds.specs.declared.round.Round.{Round}
 use Rattle.seat_matrix.specs.Matrix.{SeatTable}
-use Rattle.step_lines.specs.Lines.{step_name}
+use Rattle.step_lines.specs.Lines.{seat_kind_name, step_name}
 
 -- ---- words
 
@@ -72,7 +72,7 @@ seat_programme table (Some seat) = code table seat.prog.0
 -- the step of a seat, or null without one
 abbrev pub seat_step : Option Seat → Data
 seat_step None = null
-seat_step (Some seat) = word (step_name seat.step)
+seat_step (Some seat) = word (seat_kind_name seat.step)
 
 -- the standing of a candidate, and the seat
 abbrev pub seat_data : SeatTable → ℕ → ℕ → Standing → Option Seat → Data

@@ -14,7 +14,7 @@ use reply_texts::{choice_name, standing_name};
 use round_options::Standing;
 use seat_matrix::Matrix;
 use std::alloc::Global;
-use step_lines::step_name;
+use step_lines::seat_kind_name;
 
 // Room for the longest of these bodies, so that a text allocates once.
 const LONGEST_BODY: usize = 160;
@@ -137,7 +137,7 @@ fn put_step(out: &mut Text, seat: Option<Seat>) -> Result<(), OutOfMemory>
 {
     match seat {
         None => put_null(out, b",\"step\":"),
-        Some(seat) => put_quoted(out, b",\"step\":", step_name(seat.step).as_bytes()),
+        Some(seat) => put_quoted(out, b",\"step\":", seat_kind_name(seat.step).as_bytes()),
     }
 }
 

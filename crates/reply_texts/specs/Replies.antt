@@ -7,7 +7,7 @@ use Rattle.kept_rows.specs.declared.rows.AnswerRow.{AnswerRow}
 use Rattle.office_base.specs.Person.{has_trait}
 use Rattle.office_base.specs.declared.asks.Choice.{Choice}
 use Rattle.office_base.specs.declared.asks.Choice.TheVariants.{Freeze as ToFreeze, Float as ToFloat, Slide as ToSlide, Withdraw as ToWithdraw}
-use Rattle.office_base.specs.declared.asks.Seat.{Seat}
+use Rattle.office_base.specs.declared.seat.Seat.{Seat}
 use Rattle.office_base.specs.declared.person.Person.{Person}
 use Rattle.office_base.specs.declared.person.Place.{Place}
 use Rattle.office_base.specs.declared.person.Place.TheVariants.{Absent, Common, Relaxed}
@@ -24,7 +24,7 @@ use Rattle.round_options.specs.declared.standing.Standing.{Standing}
 use Rattle.round_options.specs.declared.standing.Standing.TheVariants.{Waiting, Offered, Freeze, Float, Slide, Withdrawn, NoShow}
 use Rattle.rounds.specs.declared.round.Round.{Round}
 use Rattle.seat_matrix.specs.Matrix.{SeatTable}
-use Rattle.step_lines.specs.Lines.{step_name}
+use Rattle.step_lines.specs.Lines.{seat_kind_name, step_name}
 use Rattle.office_moves.specs.Refusals.{name_of, number_of}
 use Rattle.office_moves.specs.declared.moves.Reply.{Reply}
 use Rattle.office_moves.specs.declared.moves.Reply.TheVariants.{Noted, Raised, Published, Final, SeatIs, WhyIs, ListIs, RoundIs, ChoicesAre, CutoffsAre, RegisterIs, AnswersAre, StateIs, Refused}
@@ -92,7 +92,7 @@ final_line admitted = codes "final admitted " ++ decimal admitted ++ codes "\n"
 -- the seat, or that there is none
 abbrev pub seat_words : SeatTable → Option Seat → List ℕ
 seat_words table None = codes " none\n"
-seat_words table (Some seat) = codes " " ++ code_in table seat.prog.0 ++ codes " " ++ step_name seat.step ++ codes "\n"
+seat_words table (Some seat) = codes " " ++ code_in table seat.prog.0 ++ codes " " ++ seat_kind_name seat.step ++ codes "\n"
 
 -- the line of a candidate's standing and seat
 abbrev pub standing_line : SeatTable → ℕ → ℕ → Standing → Option Seat → List ℕ

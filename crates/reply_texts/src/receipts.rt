@@ -10,7 +10,7 @@ use office_base::{CandId, Choice, OutOfMemory, ProgId, Seat, StepKind, Text};
 use office_text::push_number;
 use round_options::Standing;
 use seat_matrix::Matrix;
-use step_lines::step_name;
+use step_lines::{seat_kind_name, step_name};
 
 /// Puts the line of an accepted answer.
 pub(crate) fn push_noted(
@@ -98,7 +98,7 @@ fn push_seat(out: &mut Text, matrix: &Matrix, seat: Option<Seat>) -> Result<(), 
     let code = matrix.code(seat.prog);
     out.extend_from_slice(b" ")?;
     out.extend_from_slice(code.bytes())?;
-    push_named(out, b" ", step_name(seat.step))?;
+    push_named(out, b" ", seat_kind_name(seat.step))?;
     out.extend_from_slice(b"\n")
 }
 

@@ -7,14 +7,14 @@ use Rattle.std.specs.Option.{unwrap_or}
 use Rattle.allocations.specs.Market.{applicants}
 use Rattle.allocations.proofs.Claims.{applicants_may}
 use Rattle.allocations.proofs.Places.{place_read}
-use Rattle.office_base.specs.declared.asks.Seat.{Seat}
+use Rattle.office_base.specs.declared.seat.Seat.{Seat}
 use Rattle.office_base.specs.declared.person.Person.{Person}
 use Rattle.office_base.proofs.Lists.{all_from, there_is}
 use Rattle.kept_rows.specs.declared.rows.AllotRow.{AllotRow}
 use Rattle.programme_lists.specs.declared.programme.Programme.{Programme}
 use Rattle.open_then_category.specs.Laws.{SlotsAreTraits}
 use Rattle.seat_matrix.specs.Matrix.{seats_in}
-use Rattle.rounds.specs.Rule.{MayApplyIn, ProgrammesChooseWell, rule_of, seekers_of}
+use Rattle.rounds.specs.Rule.{MayApplyIn, ProgrammesChooseWell, nobody, rule_of, seekers_of}
 use Rattle.rounds.specs.declared.round.Round.{Round}
 use Rattle.rounds.proofs.Entrants.{market}
 use Rattle.round_options.specs.Options.{holds}
@@ -67,7 +67,7 @@ round_shows facts state before round laws sound orderly at =
           let below = slice_get_within round.programmes p programme shows in
           let count = made.count in
           let less : p < length table.programmes = omega (arith, below, count) in
-          let may = applicants_may (rule_of facts.version table) (MayApplyIn table) (length table.programmes) p seekers round.seats seek (laws.well facts.version table sound_seats) less allocation.full in
+          let may = applicants_may (rule_of facts.version nobody table) (MayApplyIn table) (length table.programmes) p seekers round.seats seek (laws.well facts.version nobody table sound_seats) less allocation.full in
           laws.slots facts.version (seats_in table p) (applicants p seekers round.seats) programme (sound_seats.sound p less) may (made.shown p programme shows);
     }
 

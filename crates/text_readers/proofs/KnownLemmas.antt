@@ -11,6 +11,8 @@ use Rattle.office_base.specs.Limits.{longest_code, shortest_code}
 use Rattle.office_base.specs.Lists.{Pairwise}
 use Rattle.office_base.specs.declared.person.Person.{Person}
 use Rattle.office_base.specs.declared.person.ProgId.{ProgId}
+use Rattle.office_base.specs.declared.seat.SeatKind.{SeatKind}
+use Rattle.office_base.specs.declared.seat.SeatKind.TheVariants.{Kept, Under}
 use Rattle.office_base.specs.declared.step.StepKind.{StepKind}
 use Rattle.office_base.proofs.StepNumbers.{each_step}
 use Rattle.published_texts.specs.Texts.{code_in}
@@ -18,7 +20,7 @@ use Rattle.rank_lists.specs.Register.{find_person}
 use Rattle.rank_lists.proofs.Known.{found_id}
 use Rattle.seat_matrix.specs.Matrix.{SeatTable, codes_in}
 use Rattle.seat_matrix.specs.declared.entry.Home.{Home}
-use Rattle.step_lines.specs.Lines.{step_name}
+use Rattle.step_lines.specs.Lines.{seat_kind_name, step_name}
 use Rattle.text_readers.specs.Parts.{AreSmall}
 use Rattle.text_readers.specs.Reading.{HasNo}
 use Rattle.text_readers.proofs.PartsLemmas.{has-no-tested, position-none}
@@ -32,6 +34,13 @@ code-clear byte code other spelled =
 
 step-letters : (step : StepKind) → list_all is_code_byte (step_name step) ≡ true
 step-letters = each_step (λ step. list_all is_code_byte (step_name step)) refl
+
+kind-letters : (kind : SeatKind) → list_all is_code_byte (seat_kind_name kind) ≡ true
+kind-letters (Under step) = step-letters step
+kind-letters Kept = refl
+
+pub kind-clear : (byte : ℕ) (kind : SeatKind) → is_code_byte byte ≡ false → HasNo byte (seat_kind_name kind)
+kind-clear byte kind other = has-no-tested is_code_byte byte (seat_kind_name kind) other (kind-letters kind)
 
 pub step-clear : (byte : ℕ) (step : StepKind) → is_code_byte byte ≡ false → HasNo byte (step_name step)
 step-clear byte step other = has-no-tested is_code_byte byte (step_name step) other (step-letters step)

@@ -6,7 +6,7 @@ use Rattle.published_texts.specs.Texts.{code_in}
 use Rattle.text_readers.proofs.NumberLemmas.{number-read, number-written}
 use Rattle.text_readers.proofs.PartsLemmas.{if-none}
 use Rattle.publish.specs.Rows.{IsNoRow}
-use Rattle.publish.proofs.RowLemmas.{no-step, row-cand, row-code, row-half, row-whole, step-written}
+use Rattle.publish.proofs.RowLemmas.{no-kind, row-cand, row-code, row-half, row-whole, kind-written}
 use Rattle.publish.proofs.parts.read_row.Goals as goal
 
 pub returns-in_err-cand-clause-none : goal.returns-in_err-cand-clause-none
@@ -36,7 +36,7 @@ returns-in_err-prog-clause-none c =
 pub returns-in_err-step-clause-none : goal.returns-in_err-step-clause-none
 returns-in_err-step-clause-none c =
     if-none c.from_residual-in_err-step.result (IsNoRow c.args.word.now c.args.matrix.now c.args.line.now) (λ cand prog step small row.
-    no-step c.in_ok-code.step.now (sym c.in_err-step.ensures) step (row-code c.args.word.now c.args.matrix.now c.args.line.now cand prog step c.requires small row c.in_ok-rest.rest.now c.in_ok-cand.cand.now c.in_ok-cand.rest.now
+    no-kind c.in_ok-code.step.now (sym c.in_err-step.ensures) step (row-code c.args.word.now c.args.matrix.now c.args.line.now cand prog step c.requires small row c.in_ok-rest.rest.now c.in_ok-cand.cand.now c.in_ok-cand.rest.now
     c.in_ok-code.code.now c.in_ok-code.step.now c.in_ok-rest.ensures.some c.in_ok-cand.ensures.some c.in_ok-cand.ensures.first c.in_ok-code.ensures.some c.in_ok-code.ensures.first).1)
 
 pub returns-clause-some : goal.returns-clause-some
@@ -46,6 +46,6 @@ returns-clause-some c =
     record {
       same = c.in_ok-rest.ensures.some ∙ ap (λ z. c.args.word.now ++ z) (c.in_ok-cand.ensures.some ∙ ap (λ z. z ++ 32 ∷ c.in_ok-cand.rest.now) number.0
           ∙ ap (λ z. decimal c.in_ok-cand-2.cand ++ 32 ∷ z) (c.in_ok-code.ensures.some ∙ ap (λ z. z ++ 32 ∷ c.in_ok-code.step.now) code
-          ∙ ap (λ z. code_in c.args.matrix.now c.in_ok-prog.prog.0 ++ 32 ∷ z) (step-written c.in_ok-code.step.now c.in_ok-step.step (sym c.in_ok-step.ensures))));
+          ∙ ap (λ z. code_in c.args.matrix.now c.in_ok-prog.prog.0 ++ 32 ∷ z) (kind-written c.in_ok-code.step.now c.in_ok-step.step (sym c.in_ok-step.ensures))));
       within = within;
     }
