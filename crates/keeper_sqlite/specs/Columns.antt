@@ -2,7 +2,7 @@
 use Rattle.std.specs.Prelude.{◌≡◌, List, [], Option, Some, None, slice_get}
 use Rattle.sqlite.specs.Order.{Row}
 use Rattle.keeper_sqlite.specs.declared.rising.Key.{Key}
-pub use Rattle.stored_tables.specs.Columns.{Holds, IsChoiceAt, IsStepAt, IsNumbered, IsAnswerRow, IsRaiseRow, IsAllotRow, IsPhaseRow, TellsPhase, IsPartRow}
+pub use Rattle.stored_tables.specs.Columns.{Holds, IsChoiceAt, IsSeatKindAt, IsStepAt, IsNumbered, IsAnswerRow, IsRaiseRow, IsAllotRow, IsPhaseRow, TellsPhase, IsPartRow}
 
 -- rnd, cand
 pub record IsKeyRow (row : Row) (key : Key) : Type 0 where

@@ -17,12 +17,12 @@ ghost use Rattle.keeper_sqlite.specs.Stops.{LosesKey, LosesRecords};
 ghost use Rattle.keeper_sqlite.specs.Kept.Call.{Runs, Asks, Readies};
 
 use crate::calls::{ask, make_ready, run_ready};
-use crate::columns::{number_at, small_number_at, step_at};
+use crate::columns::{number_at, seat_kind_at, small_number_at};
 use crate::halt::Halt;
 use crate::records::StoredRow;
 use crate::rising::Key;
 use kept_rows::{AllotRow, AllotRows};
-use office_base::{CandId, ProgId, step_number};
+use office_base::{CandId, ProgId, seat_kind_number};
 use sqlite::{Alter, Row, Statement, Transaction, params};
 use std::alloc::Global;
 
@@ -80,7 +80,7 @@ fn insert_one<S: Alter>(
             u32::from(row.round),
             row.cand.0,
             u32::from(row.prog.0),
-            u32::from(step_number(row.step))
+            u32::from(seat_kind_number(row.step))
         ],
     )
 }
@@ -124,7 +124,7 @@ impl StoredRow for AllotRow {
             round: small_number_at(row, 0)?,
             cand: CandId(number_at(row, 1)?),
             prog: ProgId(small_number_at(row, 2)?),
-            step: step_at(row, 3)?,
+            step: seat_kind_at(row, 3)?,
         })
     }
 }

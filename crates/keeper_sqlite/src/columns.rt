@@ -1,13 +1,14 @@
 // The numbers in the columns of a row.
 ghost use Rattle.std.specs.Prelude.{ℕ, IfOk, IfErr, OnOk};
 ghost use Rattle.keeper_sqlite.specs.Halts.{WantsMemory};
-ghost use Rattle.keeper_sqlite.specs.Columns.{Holds, IsNumbered, IsChoiceAt, IsStepAt};
+ghost use Rattle.keeper_sqlite.specs.Columns.{Holds, IsNumbered, IsChoiceAt, IsSeatKindAt, IsStepAt};
 ghost use Rattle.office_base.specs.declared.asks.Choice.{Choice};
+ghost use Rattle.office_base.specs.declared.seat.SeatKind.{SeatKind};
 ghost use Rattle.office_base.specs.declared.step.StepKind.{StepKind};
 
 use crate::halt::Halt;
 use crate::numbers::choice_of_number;
-use office_base::{Choice, StepKind, step_of_number};
+use office_base::{Choice, SeatKind, StepKind, seat_kind_of_number, step_of_number};
 use sqlite::Row;
 
 /// Reads a number of at most 32 bits.
@@ -53,4 +54,13 @@ pub(crate) fn step_at(row: &Row, at: usize) -> Result<StepKind, Halt>
 {
     let number = u8::try_from(number_at(row, at)?).map_err(|_| Halt::Unfit)?;
     step_of_number(number).ok_or(Halt::Unfit)
+}
+
+pub(crate) fn seat_kind_at(row: &Row, at: usize) -> Result<SeatKind, Halt>
+    ensures ok { IfOk result (IsSeatKindAt row.now at) }
+    ensures err { IfErr result (λ halt. ¬ WantsMemory halt
+        → (kind : SeatKind) → ¬ IsSeatKindAt row.now at kind) }
+{
+    let number = u8::try_from(number_at(row, at)?).map_err(|_| Halt::Unfit)?;
+    seat_kind_of_number(number).ok_or(Halt::Unfit)
 }

@@ -7,16 +7,20 @@ use Rattle.sqlite.specs.declared.types.Value.TheVariants.{Null, Int, Real, Text,
 use Rattle.sqlite.specs.Order.{Row, column}
 use Rattle.sqlite.specs.Tree.{rowid}
 use Rattle.office_base.specs.CategorySteps.{step_of_number}
+use Rattle.office_base.specs.SeatKinds.{seat_kind_number, seat_kind_of_number}
 use Rattle.office_base.specs.StepNumbers.{step_number}
 use Rattle.office_base.specs.declared.asks.Choice.{Choice}
 use Rattle.office_base.specs.declared.asks.Choice.TheVariants.{Freeze, Float, Slide, Withdraw}
+use Rattle.office_base.specs.declared.seat.SeatKind.{SeatKind}
 use Rattle.office_base.specs.declared.step.StepKind.{StepKind}
+use Rattle.office_base.proofs.SeatKinds.{seat_kind_number_at}
+use Rattle.kept_rows.proofs.SeatKinds.{one_seat_kind}
 use Rattle.office_base.proofs.StepNumbers.{number_at, one_number}
 use Rattle.kept_rows.specs.declared.rows.AnswerRow.{AnswerRow}
 use Rattle.kept_rows.specs.declared.rows.AllotRow.{AllotRow}
 use Rattle.kept_rows.specs.declared.rows.RaiseRow.{RaiseRow}
 use Rattle.stored_tables.specs.Numbers.{choice_number, choice_of}
-use Rattle.stored_tables.specs.Rows.{number_in, choice_in, step_in, bytes_in, answer_of, raise_of, allot_of, part_of, rows_from}
+use Rattle.stored_tables.specs.Rows.{number_in, choice_in, seat_kind_in, step_in, bytes_in, answer_of, raise_of, allot_of, part_of, rows_from}
 use Rattle.stored_tables.specs.Columns.{IsAnswerRow, IsRaiseRow, IsAllotRow, IsPartRow}
 use Rattle.stored_tables.proofs.RowLemmas.{begins}
 
@@ -72,6 +76,11 @@ step_is v step h =
     let p = then_some (number_in 32 v) step_of_number step h in
     (number_is 32 v p.0 p.1).1 ∙ ap (λ (n : ℕ). Int (pos n)) (sym (number_at p.0 step p.2))
 
+seat_kind_is : (v : Value) (kind : SeatKind) → seat_kind_in v ≡ Some kind → v ≡ Int (pos (seat_kind_number kind))
+seat_kind_is v kind h =
+    let p = then_some (number_in 32 v) seat_kind_of_number kind h in
+    (number_is 32 v p.0 p.1).1 ∙ ap (λ (n : ℕ). Int (pos n)) (sym (seat_kind_number_at p.0 kind p.2))
+
 bytes_is : (v : Value) (bytes : List ℕ) → bytes_in v ≡ Some bytes → v ≡ Blob bytes
 bytes_is Null bytes h = absurd (let e = h in cc)
 bytes_is (Int n) bytes h = absurd (let e = h in cc)
@@ -117,11 +126,11 @@ allot_stands row a is =
     let r = then_some (number_in 16 (column row 1)) _ a is in
     let c = then_some (number_in 32 (column row 2)) _ a r.2 in
     let p = then_some (number_in 16 (column row 3)) _ a c.2 in
-    let s = map_some (step_in (column row 4)) _ a p.2 in
+    let s = map_some (seat_kind_in (column row 4)) _ a p.2 in
     let round = number_is 16 (column row 1) r.0 r.1 in
     let cand = number_is 32 (column row 2) c.0 c.1 in
     let prog = number_is 16 (column row 3) p.0 p.1 in
-    subst (IsAllotRow (allot_shown row)) s.2 (record { round = round; cand = cand; prog = prog; step = step_is (column row 4) s.0 s.1 })
+    subst (IsAllotRow (allot_shown row)) s.2 (record { round = round; cand = cand; prog = prog; step = seat_kind_is (column row 4) s.0 s.1 })
 
 pub part_stands : (row : Row) (bytes : List ℕ) (n : ℕ) → part_of row ≡ Some bytes → rowid row ≡ Int (pos n) → IsPartRow (part_shown row) bytes
 part_stands row bytes n is id = record { part = (n, id); bytes = bytes_is (column row 2) bytes is }
@@ -156,6 +165,9 @@ choice_once v a b one two = some_value (sym (of_number a) ∙ (ap choice_of (num
 step_once : (v : Value) (a b : StepKind) → v ≡ Int (pos (step_number a)) → v ≡ Int (pos (step_number b)) → a ≡ b
 step_once v a b one two = one_number a b (number_once v _ _ one two)
 
+seat_kind_once : (v : Value) (a b : SeatKind) → v ≡ Int (pos (seat_kind_number a)) → v ≡ Int (pos (seat_kind_number b)) → a ≡ b
+seat_kind_once v a b one two = one_seat_kind a b (number_once v _ _ one two)
+
 pub one_answer : (row : Row) (a b : AnswerRow) → IsAnswerRow row a → IsAnswerRow row b → a ≡ b
 one_answer row a b p q =
     let w = number_once _ a.window b.window p.window.1 q.window.1 in
@@ -177,7 +189,7 @@ one_allot row a b p q =
     let r = number_once _ a.round b.round p.round.1 q.round.1 in
     let c = number_once _ a.cand.0 b.cand.0 p.cand.1 q.cand.1 in
     let g = number_once _ a.prog.0 b.prog.0 p.prog.1 q.prog.1 in
-    let s = step_once _ a.step b.step p.step q.step in
+    let s = seat_kind_once _ a.step b.step p.step q.step in
     λ i. record { round = r i; cand = record { 0 = c i }; prog = record { 0 = g i }; step = s i }
 
 same_bytes : {a b : List ℕ} → ◌≡◌ {A = Value} (Blob a) (Blob b) → a ≡ b

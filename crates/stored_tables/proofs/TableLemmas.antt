@@ -15,6 +15,7 @@ use Rattle.sqlite.specs.Term.{lit, col}
 use Rattle.kept_rows.specs.declared.rows.AnswerRow.{AnswerRow}
 use Rattle.kept_rows.specs.declared.rows.AllotRow.{AllotRow}
 use Rattle.kept_rows.specs.declared.rows.RaiseRow.{RaiseRow}
+use Rattle.office_base.specs.SeatKinds.{seat_kind_number}
 use Rattle.office_base.specs.StepNumbers.{step_number}
 use Rattle.stored_tables.specs.Numbers.{choice_number}
 use Rattle.stored_tables.specs.Layout.{season, answer, allot, lift, stored}
@@ -97,7 +98,7 @@ puts_allot strict old new row count fits has h =
     let id = next_rowid (old.now.trees 3) in
     let row_is : Row = Int id ∷ params in
     let p = puts_row (stored strict) 2 (allot strict) from allot_text params old new count (Null ∷ params) row_is it.0 (λ rows s. s.1)
-    (ap (with_rowid Chosen (old.now.trees 3)) (cast_allot strict (pos row.round) (pos row.cand.0) (pos row.prog.0) (pos (step_number row.step)))) (λ keys olds news. refl) in
+    (ap (with_rowid Chosen (old.now.trees 3)) (cast_allot strict (pos row.round) (pos row.cand.0) (pos row.prog.0) (pos (seat_kind_number row.step)))) (λ keys olds news. refl) in
     record {
       schema_is = p.schema_is ∙ sym has;
       allots = ap (rows_from allot_of 1) p.rows ∙ told_exactly allot_of row_is row (old.now.trees 3) 1 (λ top is. (top, omega arith, allot_stored row id top fits is)) p.fresh;

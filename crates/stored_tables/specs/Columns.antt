@@ -2,8 +2,10 @@
 use Rattle.std.specs.Prelude.{◌≡◌, ◌<◌, ◌^◌, ℕ, pos, List, [], ◌∷◌, Option, Some, None}
 use Rattle.sqlite.specs.Order.{Row, column}
 use Rattle.sqlite.specs.declared.types.Value.TheVariants.{Int, Blob}
+use Rattle.office_base.specs.SeatKinds.{seat_kind_number}
 use Rattle.office_base.specs.StepNumbers.{step_number}
 use Rattle.office_base.specs.declared.asks.Choice.{Choice}
+use Rattle.office_base.specs.declared.seat.SeatKind.{SeatKind}
 use Rattle.office_base.specs.declared.step.StepKind.{StepKind}
 use Rattle.kept_rows.specs.declared.rows.AnswerRow.{AnswerRow}
 use Rattle.kept_rows.specs.declared.rows.AllotRow.{AllotRow}
@@ -21,6 +23,10 @@ IsChoiceAt row at choice = column row at ≡ Int (pos (choice_number choice))
 -- a column holds the number of this step
 abbrev pub IsStepAt : Row → ℕ → StepKind → Type 0
 IsStepAt row at step = column row at ≡ Int (pos (step_number step))
+
+-- a column holds the number of this kind of seat
+abbrev pub IsSeatKindAt : Row → ℕ → SeatKind → Type 0
+IsSeatKindAt row at kind = column row at ≡ Int (pos (seat_kind_number kind))
 
 -- the number of a row, from 1
 abbrev pub IsNumbered : Row → Type 0
@@ -47,7 +53,7 @@ pub record IsAllotRow (row : Row) (allot : AllotRow) : Type 0 where
   pub round : Holds row 16 0 allot.round
   pub cand : Holds row 32 1 allot.cand.0
   pub prog : Holds row 16 2 allot.prog.0
-  pub step : IsStepAt row 3 allot.step
+  pub step : IsSeatKindAt row 3 allot.step
 
 -- id, which is 1, and cuts
 pub record IsPhaseRow (row : Row) (made : ℕ) : Type 0 where

@@ -6,7 +6,9 @@ use Rattle.sqlite.specs.declared.types.Value.TheVariants.{Int, Blob}
 use Rattle.sqlite.specs.Order.{Row, column}
 use Rattle.sqlite.specs.Tree.{Trees}
 use Rattle.office_base.specs.CategorySteps.{step_of_number}
+use Rattle.office_base.specs.SeatKinds.{seat_kind_of_number}
 use Rattle.office_base.specs.declared.asks.Choice.{Choice}
+use Rattle.office_base.specs.declared.seat.SeatKind.{SeatKind}
 use Rattle.office_base.specs.declared.step.StepKind.{StepKind}
 use Rattle.kept_rows.specs.declared.rows.AnswerRow.{AnswerRow}
 use Rattle.kept_rows.specs.declared.rows.AllotRow.{AllotRow}
@@ -28,6 +30,10 @@ choice_in value = option_and_then choice_of (number_in 32 value)
 -- the number of a step
 abbrev pub step_in : Value → Option StepKind
 step_in value = option_and_then step_of_number (number_in 32 value)
+
+-- the number of a kind of seat
+abbrev pub seat_kind_in : Value → Option SeatKind
+seat_kind_in value = option_and_then seat_kind_of_number (number_in 32 value)
 
 abbrev pub bytes_in : Value → Option (List ℕ)
 bytes_in (Blob bytes) = Some bytes
@@ -61,7 +67,7 @@ raise_of row =
 abbrev pub allot_of : Row → Option AllotRow
 allot_of row =
     option_and_then (λ r. option_and_then (λ c. option_and_then (λ p. option_map (λ s. record { round = r; cand = record { 0 = c }; prog = record { 0 = p }; step = s })
-    (step_in (column row 4))) (number_in 16 (column row 3))) (number_in 32 (column row 2))) (number_in 16 (column row 1))
+    (seat_kind_in (column row 4))) (number_in 16 (column row 3))) (number_in 32 (column row 2))) (number_in 16 (column row 1))
 
 -- part, bytes
 abbrev pub part_of : Row → Option (List ℕ)

@@ -2,6 +2,7 @@
 use Rattle.std.specs.Prelude.{ℕ, pos, List, [], ◌∷◌, codes}
 use Rattle.sqlite.specs.Order.{Row}
 use Rattle.sqlite.specs.declared.types.Value.TheVariants.{Int, Blob}
+use Rattle.office_base.specs.SeatKinds.{seat_kind_number}
 use Rattle.office_base.specs.StepNumbers.{step_number}
 use Rattle.kept_rows.specs.declared.rows.AnswerRow.{AnswerRow}
 use Rattle.kept_rows.specs.declared.rows.AllotRow.{AllotRow}
@@ -47,7 +48,7 @@ abbrev pub allot_text : List ℕ
 allot_text = codes "INSERT INTO allot (rnd, cand, prog, step) VALUES (?1, ?2, ?3, ?4)"
 
 abbrev pub allot_values : AllotRow → Row
-allot_values row = Int (pos row.round) ∷ Int (pos row.cand.0) ∷ Int (pos row.prog.0) ∷ Int (pos (step_number row.step)) ∷ []
+allot_values row = Int (pos row.round) ∷ Int (pos row.cand.0) ∷ Int (pos row.prog.0) ∷ Int (pos (seat_kind_number row.step)) ∷ []
 
 -- puts the number of cuts in place of the one that is there
 abbrev pub cuts_text : List ℕ
