@@ -3,9 +3,9 @@ use Rattle.std.proofs.Common.{◌≡◌, ◌≢◌, ◌<◌, ◌↔◌, ◌⊎�
 use Rattle.std.specs.Prelude.{IsTrue, slice_get}
 use Rattle.std.proofs.lemmas.Bool.{cases_Bool, cond-false, cond-true, eq-eqb, eqb-true}
 use Rattle.office_base.specs.Lists.{IsAmong, Pairwise}
-use Rattle.office_base.specs.declared.asks.Seat.{Seat}
+use Rattle.office_base.specs.declared.seat.Seat.{Seat}
 use Rattle.office_base.specs.declared.person.Person.{Person}
-use Rattle.office_base.specs.declared.step.StepKind.{StepKind}
+use Rattle.office_base.specs.declared.seat.SeatKind.{SeatKind}
 use Rattle.placements.proofs.Convert.{same_cand}
 use Rattle.allocations.specs.Fair.{IsAllocation, IsFair}
 use Rattle.allocations.specs.Market.{Seeker, applicants, applies, seat_at}
@@ -35,11 +35,11 @@ somebody_named id (other ∷ people) e = elim (cases_Bool (other.id.0 == id)) [
 ]
 
 -- Seats of own lists, and lists that name whom each programme admits from those who apply to it: where both say the same of each candidate, the seats are fair.
-pub fair_from_lists : (rule : Rule) (count : ℕ) (seekers : List Seeker) (seats : List (Option Seat)) (named : ℕ → StepKind → List Person) → IsAllocation seekers seats
+pub fair_from_lists : (rule : Rule) (count : ℕ) (seekers : List Seeker) (seats : List (Option Seat)) (named : ℕ → SeatKind → List Person) → IsAllocation seekers seats
     → Pairwise (λ (a b : Seeker). a.person.id ≢ b.person.id) seekers
-    → ((p : ℕ) (person : Person) (kind : StepKind) → p < count → rule p (applicants p seekers seats) person kind ↔ IsAmong person (named p kind))
-    → ((p : ℕ) (person : Person) (kind : StepKind) → p < count → IsAmong person (named p kind) → IsAmong person (applicants p seekers seats))
-    → ((p i : ℕ) (s : Seeker) (kind : StepKind) → p < count → slice_get seekers i ≡ Some s → IsTrue (is_named s.person.id.0 (named p kind)) ↔ (slice_get seats i ≡ Some (Some (seat_at p kind))))
+    → ((p : ℕ) (person : Person) (kind : SeatKind) → p < count → rule p (applicants p seekers seats) person kind ↔ IsAmong person (named p kind))
+    → ((p : ℕ) (person : Person) (kind : SeatKind) → p < count → IsAmong person (named p kind) → IsAmong person (applicants p seekers seats))
+    → ((p i : ℕ) (s : Seeker) (kind : SeatKind) → p < count → slice_get seekers i ≡ Some s → IsTrue (is_named s.person.id.0 (named p kind)) ↔ (slice_get seats i ≡ Some (Some (seat_at p kind))))
     → IsFair rule count seekers seats
 fair_from_lists rule count seekers seats named own distinct chosen within agree = record {
   allocation = own;

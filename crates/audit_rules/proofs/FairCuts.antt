@@ -1,12 +1,15 @@
 -- A cut at which no clause is broken is fair, and nobody falls.
 use Rattle.std.proofs.Common.{◌≡◌, ◌<◌, ◌↔◌, ℕ, true, List, [], Option, Some, None, length, arith, refl, sym, ap, ◌∙◌, subst}
+use Rattle.std.proofs.lemmas.Bool.{false≢true}
 use Rattle.std.specs.Prelude.{IsTrue, option_map, slice_get}
 use Rattle.std.proofs.lemmas.List.{length-map}
 use Rattle.std.proofs.lemmas.Option.{same_Some, slice_get-map, slice_get_within}
 use Rattle.office_base.specs.Lists.{IsAmong}
-use Rattle.office_base.specs.declared.asks.Seat.{Seat}
+use Rattle.office_base.specs.declared.seat.Seat.{Seat}
 use Rattle.office_base.specs.declared.person.Person.{Person}
 use Rattle.office_base.specs.declared.person.ProgId.{ProgId}
+use Rattle.office_base.specs.declared.seat.SeatKind.{SeatKind}
+use Rattle.office_base.specs.declared.seat.SeatKind.TheVariants.{Kept, Under}
 use Rattle.office_base.specs.declared.step.StepKind.{StepKind}
 use Rattle.office_base.specs.declared.step.StepKind.TheVariants.{Open}
 use Rattle.office_base.proofs.Lists.{there_is}
@@ -22,7 +25,7 @@ use Rattle.open_then_category.specs.Laws.{OneProgrammeChoice}
 use Rattle.programme_lists.specs.Chosen.{ChoosesFrom}
 use Rattle.programme_lists.specs.Programme.{Admissions, admitted_by}
 use Rattle.programme_lists.specs.declared.programme.Programme.{Programme}
-use Rattle.rounds.specs.Rule.{MayApplyIn, ProgrammesChooseWell, rule_of}
+use Rattle.rounds.specs.Rule.{MayApplyIn, ProgrammesChooseWell, nobody, rule_of}
 use Rattle.rounds.proofs.Entrants.{entered, length_seekers, market}
 use Rattle.round_options.specs.Options.{holds, seek_after}
 use Rattle.seat_matrix.specs.Matrix.{seats_in}
@@ -35,7 +38,7 @@ use Rattle.office_moves.specs.State.{State, last_seat, seat_of, standing_at, vie
 use Rattle.history_laws.proofs.Entering.{entrants, list_there, lists_full, own_there}
 use Rattle.history_laws.proofs.Fits.{seat_at_place, the_prog}
 use Rattle.history_laws.proofs.Falls.{left_kept}
-use Rattle.audit_rules.specs.Cut.{CutHolds, applicants_at, is_named, lists_at, seat_given, seekers_at, sought_by}
+use Rattle.audit_rules.specs.Cut.{CutHolds, applicants_at, is_named, lists_at, named_for, seat_given, seekers_at, sought_by}
 use Rattle.audit_rules.specs.Fair.{IsFairCut}
 use Rattle.audit_rules.specs.InOrder.{IsInOrder}
 use Rattle.audit_rules.specs.Papers.{Papers, lists_after, rows_after, seat_told, seats_told}
@@ -118,9 +121,9 @@ pub may_apply : ProgrammesChooseWell → (facts : SeasonFacts) (papers : Papers)
 may_apply well facts papers state p sound order less =
     let table = matrix_at facts state in
     let below : p < length table.programmes = subst (λ z. p < length z) (sym order.programmes) less in
-    applicants_may (rule_of facts.version table) (MayApplyIn table) (length table.programmes) p (seekers_at facts state) (seats_of facts papers state)
+    applicants_may (rule_of facts.version nobody table) (MayApplyIn table) (length table.programmes) p (seekers_at facts state) (seats_of facts papers state)
     (market table facts.people (lists_in_order facts) (next_seeks facts state) order.seats (entrants facts table sound order.programmes))
-    (well facts.version table order.seats) below (full_seats facts papers state sound)
+    (well facts.version nobody table order.seats) below (full_seats facts papers state sound)
 
 may : (facts : SeasonFacts) (papers : Papers) (state : State) (p : ℕ) → IsCut facts papers state → p < length facts.matrix.programmes → MayApplyIn (matrix_at facts state) p (applicants_at facts papers state p)
 may facts papers state p cut less = may_apply cut.laws.well facts papers state p cut.sound cut.order less
@@ -133,9 +136,9 @@ chooses facts papers state p programme cut less there =
     (cut.order.seats.sound p (subst (λ z. p < length z) (sym cut.order.programmes) less)) (may facts papers state p cut less) (cut.holds.sound p programme there)
 
 -- whom a step's list names
-abbrev pub named_of : Option Programme → StepKind → List Person
+abbrev pub named_of : Option Programme → SeatKind → List Person
 named_of None kind = []
-named_of (Some programme) kind = (list_of_step programme kind).admitted
+named_of (Some programme) kind = named_for programme kind
 
 same_named : (programme : Programme) (kind : StepKind) → admitted_by (named_by programme) kind ≡ (list_of_step programme kind).admitted
 same_named programme Open = refl
@@ -146,15 +149,21 @@ is_there facts papers state p cut less =
     let full : length (lists_after papers (length facts.matrix.programmes) state.now) ≡ length facts.matrix.programmes = cut.listed in
     there_is (lists_after papers (length facts.matrix.programmes) state.now) p (omega (arith, full, less))
 
-chosen : (facts : SeasonFacts) (papers : Papers) (state : State) (p : ℕ) (person : Person) (kind : StepKind) → IsCut facts papers state → p < length facts.matrix.programmes
-    → rule_of facts.version (matrix_at facts state) p (applicants_at facts papers state p) person kind ↔ IsAmong person (named_of (lists_at facts papers state p) kind)
-chosen facts papers state p person kind cut less =
+chosen : (facts : SeasonFacts) (papers : Papers) (state : State) (p : ℕ) (person : Person) (kind : SeatKind) → IsCut facts papers state → p < length facts.matrix.programmes
+    → rule_of facts.version nobody (matrix_at facts state) p (applicants_at facts papers state p) person kind ↔ IsAmong person (named_of (lists_at facts papers state p) kind)
+chosen facts papers state p person Kept cut less =
+    let found = is_there facts papers state p cut less in
+    let none : named_of (lists_at facts papers state p) Kept ≡ [] = ap (λ (o : Option Programme). named_of o Kept) found.1 in (
+      (λ keeps. absurd (false≢true keeps.guaranteed_there)),
+      (λ among. absurd (subst (IsAmong person) none among)),
+    )
+chosen facts papers state p person (Under kind) cut less =
     let found = is_there facts papers state p cut less in
     let programme = found.0 in
     let choice = chooses facts papers state p programme cut less found.1 in
     let seats = cut.order.seats.sound p (subst (λ z. p < length z) (sym cut.order.programmes) less) in
-    let named : named_of (lists_at facts papers state p) kind ≡ admitted_by (named_by programme) kind =
-    ap (λ (o : Option Programme). named_of o kind) found.1 ∙ sym (same_named programme kind) in (
+    let named : named_of (lists_at facts papers state p) (Under kind) ≡ admitted_by (named_by programme) kind =
+    ap (λ (o : Option Programme). named_of o (Under kind)) found.1 ∙ sym (same_named programme kind) in (
       (λ admits.
           let one : admits.0 ≡ named_by programme =
           cut.laws.one facts.version (seats_in (matrix_at facts state) p) (applicants_at facts papers state p) admits.0 (named_by programme) seats (may facts papers state p cut less) admits.1 choice in
@@ -162,24 +171,24 @@ chosen facts papers state p person kind cut less =
       (λ among. (named_by programme, choice, subst (IsAmong person) named among)),
     )
 
-agrees : (facts : SeasonFacts) (papers : Papers) (state : State) (p i : ℕ) (s : Seeker) (kind : StepKind) → IsCut facts papers state → p < length facts.matrix.programmes → slice_get (seekers_at facts state) i ≡ Some s
+agrees : (facts : SeasonFacts) (papers : Papers) (state : State) (p i : ℕ) (s : Seeker) (kind : SeatKind) → IsCut facts papers state → p < length facts.matrix.programmes → slice_get (seekers_at facts state) i ≡ Some s
     → IsTrue (is_named s.person.id.0 (named_of (lists_at facts papers state p) kind)) ↔ (slice_get (seats_of facts papers state) i ≡ Some (Some (seat_at p kind)))
 agrees facts papers state p i s kind cut less there =
     let found = is_there facts papers state p cut less in
     let entry = enters facts state i s cut.sound there in
     let agree = cut.holds.listed p found.0 found.1 i s.person entry.person_at kind in
-    let named : named_of (lists_at facts papers state p) kind ≡ (list_of_step found.0 kind).admitted = ap (λ (o : Option Programme). named_of o kind) found.1 in
+    let named : named_of (lists_at facts papers state p) kind ≡ named_for found.0 kind = ap (λ (o : Option Programme). named_of o kind) found.1 in
     let given = seats_at papers facts state i s.person entry.person_at in (
       (λ is. given ∙ ap Some (agree.0 (subst (λ (l : List Person). IsTrue (is_named s.person.id.0 l)) named is))),
       (λ has. subst (λ (l : List Person). IsTrue (is_named s.person.id.0 l)) (sym named) (agree.1 (same_Some (seat_given papers state s.person.id.0) (Some (seat_at p kind)) (sym given ∙ has)))),
     )
 
 pub fair : (facts : SeasonFacts) (papers : Papers) (state : State) → IsCut facts papers state
-    → IsFair (rule_of facts.version (matrix_at facts state)) (length facts.matrix.programmes) (seekers_at facts state) (seats_of facts papers state)
+    → IsFair (rule_of facts.version nobody (matrix_at facts state)) (length facts.matrix.programmes) (seekers_at facts state) (seats_of facts papers state)
 fair facts papers state cut =
     let table = matrix_at facts state in
-    let well = cut.laws.well facts.version table cut.order.seats in
-    fair_from_lists (rule_of facts.version table) (length facts.matrix.programmes) (seekers_at facts state) (seats_of facts papers state) (λ p kind. named_of (lists_at facts papers state p) kind)
+    let well = cut.laws.well facts.version nobody table cut.order.seats in
+    fair_from_lists (rule_of facts.version nobody table) (length facts.matrix.programmes) (seekers_at facts state) (seats_of facts papers state) (λ p kind. named_of (lists_at facts papers state p) kind)
     (allocation facts papers state cut.sound cut.holds)
     (market table facts.people (lists_in_order facts) (next_seeks facts state) cut.order.seats (entrants facts table cut.sound cut.order.programmes)).ids
     (λ p person kind less. chosen facts papers state p person kind cut less)
@@ -188,12 +197,12 @@ fair facts papers state cut =
 
 -- and so nobody has a justified claim
 no_claim : (facts : SeasonFacts) (papers : Papers) (state : State) → IsCut facts papers state → (p i : ℕ) → p < length facts.matrix.programmes
-    → HasClaim (rule_of facts.version (matrix_at facts state)) (seekers_at facts state) (seats_of facts papers state) i p → ⊥
+    → HasClaim (rule_of facts.version nobody (matrix_at facts state)) (seekers_at facts state) (seats_of facts papers state) i p → ⊥
 no_claim facts papers state cut =
     let table = matrix_at facts state in
     let enter = market table facts.people (lists_in_order facts) (next_seeks facts state) cut.order.seats (entrants facts table cut.sound cut.order.programmes) in
-    let justified = fair_justified (rule_of facts.version table) (MayApplyIn table) (length facts.matrix.programmes) (seekers_at facts state) (seats_of facts papers state)
-    (subst (λ z. IsMarket (MayApplyIn table) (length z) (seekers_at facts state)) cut.order.programmes enter) (cut.laws.well facts.version table cut.order.seats) (fair facts papers state cut) in
+    let justified = fair_justified (rule_of facts.version nobody table) (MayApplyIn table) (length facts.matrix.programmes) (seekers_at facts state) (seats_of facts papers state)
+    (subst (λ z. IsMarket (MayApplyIn table) (length z) (seekers_at facts state)) cut.order.programmes enter) (cut.laws.well facts.version nobody table cut.order.seats) (fair facts papers state cut) in
     justified.no_claim
 
 -- ---- nobody falls

@@ -4,12 +4,14 @@ use Rattle.std.specs.Prelude.{IsTrue, option_map, slice_get}
 use Rattle.std.proofs.lemmas.Bool.{cases_Bool, eqb-false, eqb-true}
 use Rattle.std.proofs.lemmas.List.{length-map, take_more, length-take-le}
 use Rattle.std.proofs.lemmas.Option.{get_or_from_slice_get, same_Some, slice_get-map, slice_get_within}
-use Rattle.office_base.proofs.StepNumbers.{one_number}
+use Rattle.office_base.proofs.SeatKinds.{one_seat_kind}
 use Rattle.office_base.specs.CategorySteps.{all_steps}
 use Rattle.office_base.specs.Lists.{IsAmong}
-use Rattle.office_base.specs.StepNumbers.{step_number}
-use Rattle.office_base.specs.declared.asks.Seat.{Seat}
+use Rattle.office_base.specs.SeatKinds.{seat_kind_number}
+use Rattle.office_base.specs.declared.seat.Seat.{Seat}
 use Rattle.office_base.specs.declared.person.Person.{Person}
+use Rattle.office_base.specs.declared.seat.SeatKind.{SeatKind}
+use Rattle.office_base.specs.declared.seat.SeatKind.TheVariants.{Kept, Under}
 use Rattle.office_base.specs.declared.step.StepKind.{StepKind}
 use Rattle.office_base.proofs.Lists.{there_is, among_left, among_right}
 use Rattle.allocations.specs.Market.{seat_at}
@@ -20,7 +22,7 @@ use Rattle.programme_lists.proofs.Parts.{any_step}
 use Rattle.round_laws.proofs.People.{row_at}
 use Rattle.office_moves.specs.Facts.{IsSound, SeasonFacts}
 use Rattle.list_texts.specs.declared.lists.ListRead.{ListRead}
-use Rattle.audit_rules.specs.Cut.{Agree, Differ, is_named, lists_at, seat_given}
+use Rattle.audit_rules.specs.Cut.{Agree, Differ, is_named, lists_at, named_for, seat_given}
 use Rattle.audit_rules.specs.Papers.{rows_after, seat_told, seats_told}
 use Rattle.audit_rules.proofs.Agreeing.{named_by_id, somebody_named}
 use Rattle.audit_rules.specs.AtCut.{IsAtCut, Setting}
@@ -34,14 +36,14 @@ use Rattle.audit_rules.proofs.SeatsOfRows.{stands}
 
 -- ---- entries
 
-abbrev entry_of : ℕ → StepKind → Person → Entry
+abbrev entry_of : ℕ → SeatKind → Person → Entry
 entry_of p kind person = record { seat = record { prog = record { 0 = p }; step = kind }; cand = person.id }
 
-into_step : (p : ℕ) (kind : StepKind) (person : Person) (people : List Person) → IsAmong person people → IsAmong (entry_of p kind person) (of_step p kind people)
+into_step : (p : ℕ) (kind : StepKind) (person : Person) (people : List Person) → IsAmong person people → IsAmong (entry_of p (Under kind) person) (of_step p kind people)
 into_step p kind person [] h = absurd h
-into_step p kind person (other ∷ people) h = elim h [ inl e ↦ inl (ap (entry_of p kind) e) | inr later ↦ inr (into_step p kind person people later) ]
+into_step p kind person (other ∷ people) h = elim h [ inl e ↦ inl (ap (entry_of p (Under kind)) e) | inr later ↦ inr (into_step p kind person people later) ]
 
-from_step : (p : ℕ) (kind : StepKind) (entry : Entry) (people : List Person) → IsAmong entry (of_step p kind people) → (person : Person) × IsAmong person people × (entry ≡ entry_of p kind person)
+from_step : (p : ℕ) (kind : StepKind) (entry : Entry) (people : List Person) → IsAmong entry (of_step p kind people) → (person : Person) × IsAmong person people × (entry ≡ entry_of p (Under kind) person)
 from_step p kind entry [] h = absurd h
 from_step p kind entry (other ∷ people) h = elim h [
   | inl e ↦ (other, inl refl, e)
@@ -128,7 +130,7 @@ record IsEntry (programmes : List Programme) (entry : Entry) : Type 0 where
   kind : StepKind
   person : Person
   named : IsAmong person (list_of_step programme kind).admitted
-  is : entry ≡ entry_of p kind person
+  is : entry ≡ entry_of p (Under kind) person
 
 is_entry : (programmes : List Programme) (entry : Entry) → IsAmong entry (entries_from 0 programmes) → IsEntry programmes entry
 is_entry programmes entry h =
@@ -136,28 +138,29 @@ is_entry programmes entry h =
     let kind = from_programme (0 + all.0) all.1 entry all.3 in
     let who = from_step (0 + all.0) kind.0 entry (list_of_step all.1 kind.0).admitted kind.1 in
     let number : 0 + all.0 ≡ all.0 = omega arith in
-    record { p = all.0; programme = all.1; there = all.2; kind = kind.0; person = who.0; named = who.1; is = who.2 ∙ ap (λ (n : ℕ). entry_of n kind.0 who.0) number }
+    record { p = all.0; programme = all.1; there = all.2; kind = kind.0; person = who.0; named = who.1; is = who.2 ∙ ap (λ (n : ℕ). entry_of n (Under kind.0) who.0) number }
 
-to_entry : (programmes : List Programme) (p : ℕ) (programme : Programme) (kind : StepKind) (person : Person) → slice_get programmes p ≡ Some programme → IsAmong person (list_of_step programme kind).admitted
+to_entry : (programmes : List Programme) (p : ℕ) (programme : Programme) (kind : SeatKind) (person : Person) → slice_get programmes p ≡ Some programme → IsAmong person (named_for programme kind)
     → IsAmong (entry_of p kind person) (entries_from 0 programmes)
-to_entry programmes p programme kind person there h =
+to_entry programmes p programme (Under kind) person there h =
     let number : p ≡ 0 + p = omega arith in
-    into_all 0 p programmes programme (entry_of p kind person) there
-    (into_programme (0 + p) programme kind (entry_of p kind person)
-    (subst (λ (n : ℕ). IsAmong (entry_of p kind person) (of_kind n programme kind)) number (into_step p kind person (list_of_step programme kind).admitted h)))
+    into_all 0 p programmes programme (entry_of p (Under kind) person) there
+    (into_programme (0 + p) programme kind (entry_of p (Under kind) person)
+    (subst (λ (n : ℕ). IsAmong (entry_of p (Under kind) person) (of_kind n programme kind)) number (into_step p kind person (list_of_step programme kind).admitted h)))
+to_entry programmes p programme Kept person there h = absurd h
 
 -- ---- seats are the same or not
 
 seat_decides : (o : Option Seat) (seat : Seat) → (o ≡ Some seat) ⊎ (o ≡ Some seat → ⊥)
 seat_decides None seat = inr (λ e. let wrong : None ≡ Some seat = e in cc)
 seat_decides (Some other) seat = elim (cases_Bool (other.prog.0 == seat.prog.0)) [
-  | inl e ↦ elim (cases_Bool (step_number other.step == step_number seat.step)) [
+  | inl e ↦ elim (cases_Bool (seat_kind_number other.step == seat_kind_number seat.step)) [
     | inl f ↦ inl (
         let prog : seat_at other.prog.0 other.step ≡ seat_at seat.prog.0 other.step = ap (λ (n : ℕ). seat_at n other.step) (eqb-true other.prog.0 seat.prog.0 e) in
         let step : seat_at seat.prog.0 other.step ≡ seat_at seat.prog.0 seat.step =
-        ap (λ (k : StepKind). seat_at seat.prog.0 k) (one_number other.step seat.step (eqb-true (step_number other.step) (step_number seat.step) f)) in
+        ap (λ (k : SeatKind). seat_at seat.prog.0 k) (one_seat_kind other.step seat.step (eqb-true (seat_kind_number other.step) (seat_kind_number seat.step) f)) in
         ap Some (prog ∙ step))
-    | inr f ↦ inr (λ same. eqb-false (step_number other.step) (step_number seat.step) f (ap (λ (s : Seat). step_number s.step) (same_Some other seat same)))
+    | inr f ↦ inr (λ same. eqb-false (seat_kind_number other.step) (seat_kind_number seat.step) f (ap (λ (s : Seat). seat_kind_number s.step) (same_Some other seat same)))
   ]
   | inr e ↦ inr (λ same. eqb-false other.prog.0 seat.prog.0 e (ap (λ (s : Seat). s.prog.0) (same_Some other seat same)))
 ]
@@ -210,7 +213,7 @@ agree : (facts : SeasonFacts) (at : Setting) (seats : List (Option Seat)) (lists
     → (IsMiss facts.people seats (all_of lists) marks (length lists) (length seats) p k → ⊥) → Agree at.papers at.state p programme person
 agree facts at seats lists marks first p k programme person w there who none kind = (
   (λ named.
-      let some = somebody_named person.id.0 (list_of_step programme kind).admitted named in
+      let some = somebody_named person.id.0 (named_for programme kind) named in
       let entry = entry_of p kind some.0 in
       let place : row_of some.0.id.0 facts.people ≡ Some k = ap (λ (n : ℕ). row_of n facts.people) some.2 ∙ row_at facts.people k person w.sound.ranks.rising who in
       let has = seat_there facts at seats k person w.seats_are who in
@@ -233,17 +236,17 @@ agree facts at seats lists marks first p k programme person w there who none kin
             let right = w.marked.right k yes' in
             let e = is_entry (told_by lists) right.0 right.1 in
             let seat : right.0.seat ≡ seat_at p kind = (let a : Some (Some right.0.seat) ≡ Some (Some (seat_at p kind)) = sym right.3 ∙ has in cc) in
-            let own : seat_at e.p e.kind ≡ seat_at p kind = ap (λ (x : Entry). x.seat) (sym e.is) ∙ seat in
+            let own : seat_at e.p (Under e.kind) ≡ seat_at p kind = ap (λ (x : Entry). x.seat) (sym e.is) ∙ seat in
             let prog : e.p ≡ p = ap (λ (s : Seat). s.prog.0) own in
-            let step : e.kind ≡ kind = ap (λ (s : Seat). s.step) own in
+            let step : Under e.kind ≡ kind = ap (λ (s : Seat). s.step) own in
             let same : e.programme ≡ programme = same_Some e.programme programme (sym e.there ∙ (ap (slice_get (told_by lists)) prog ∙ there)) in
             let stood = stands right.0.cand.0 facts.people k right.2 in
             let one : person ≡ stood.0 = same_Some person stood.0 (sym who ∙ stood.1) in
             let id : e.person.id.0 ≡ person.id.0 = ap (λ (x : Entry). x.cand.0) (sym e.is) ∙ (sym stood.2 ∙ ap (λ (x : Person). x.id.0) (sym one)) in
-            let named : is_named e.person.id.0 (list_of_step programme kind).admitted ≡ true =
-            named_by_id e.person (list_of_step programme kind).admitted
-            (subst (λ (x : StepKind). IsAmong e.person (list_of_step programme x).admitted) step (subst (λ (x : Programme). IsAmong e.person (list_of_step x e.kind).admitted) same e.named)) in
-            subst (λ (n : ℕ). IsTrue (is_named n (list_of_step programme kind).admitted)) id named
+            let named : is_named e.person.id.0 (named_for programme kind) ≡ true =
+            named_by_id e.person (named_for programme kind)
+            (subst (λ (x : SeatKind). IsAmong e.person (named_for programme x)) step (subst (λ (x : Programme). IsAmong e.person (list_of_step x e.kind).admitted) same e.named)) in
+            subst (λ (n : ℕ). IsTrue (is_named n (named_for programme kind))) id named
         | inr no' ↦ absurd (none (inr (
           seat_at p kind,
           slice_get_within seats k (Some (seat_at p kind)) has,
@@ -280,8 +283,8 @@ differ facts at seats lists marks first p k w (inl wrong) =
       differs = λ agrees.
           let named : IsTrue (is_named stood.0.id.0 (list_of_step e.programme e.kind).admitted) =
           subst (λ (n : ℕ). IsTrue (is_named n (list_of_step e.programme e.kind).admitted)) id (named_by_id e.person (list_of_step e.programme e.kind).admitted e.named) in
-          let given = (agrees e.kind).0 named in
-          let seat : seat_at p e.kind ≡ entry.seat = ap (λ (n : ℕ). seat_at n e.kind) (sym prog) ∙ ap (λ (x : Entry). x.seat) (sym e.is) in
+          let given = (agrees (Under e.kind)).0 named in
+          let seat : seat_at p (Under e.kind) ≡ entry.seat = ap (λ (n : ℕ). seat_at n (Under e.kind)) (sym prog) ∙ ap (λ (x : Entry). x.seat) (sym e.is) in
           wrong.4 (seat_there facts at seats k stood.0 w.seats_are stood.1 ∙ (ap Some given ∙ ap (λ (s : Seat). Some (Some s)) seat));
     }
 differ facts at seats lists marks first p k w (inr missed) =
@@ -300,7 +303,7 @@ differ facts at seats lists marks first p k w (inr missed) =
           let given : seat_given at.papers at.state who.0.id.0 ≡ Some seat = same_Some (seat_given at.papers at.state who.0.id.0) (Some seat) (sym has ∙ missed.2) in
           let mine : seat ≡ seat_at p seat.step = ap (λ (n : ℕ). seat_at n seat.step) missed.3 in
           let named = (agrees seat.step).1 (given ∙ ap Some mine) in
-          let some = somebody_named who.0.id.0 (list_of_step found.0 seat.step).admitted named in
+          let some = somebody_named who.0.id.0 (named_for found.0 seat.step) named in
           let place : row_of some.0.id.0 facts.people ≡ Some k = ap (λ (n : ℕ). row_of n facts.people) some.2 ∙ row_at facts.people k who.0 w.sound.ranks.rising who.1 in
           let marked = w.marked.marked k (entry_of p seat.step some.0, to_entry (told_by lists) p found.0 seat.step some.0 found.1 some.1, place, missed.2 ∙ ap (λ (s : Seat). Some (Some s)) mine) in
           let no = missed.5 in

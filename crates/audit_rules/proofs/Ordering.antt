@@ -11,7 +11,7 @@ use Rattle.office_base.specs.Person.{at_person}
 use Rattle.office_base.specs.declared.asks.Choice.{Choice}
 use Rattle.office_base.specs.declared.asks.Choice.TheVariants.{Freeze}
 use Rattle.office_base.specs.declared.asks.Request.{Request}
-use Rattle.office_base.specs.declared.asks.Seat.{Seat}
+use Rattle.office_base.specs.declared.seat.Seat.{Seat}
 use Rattle.office_base.specs.declared.person.Person.{Person}
 use Rattle.office_base.proofs.Options.{some_value}
 use Rattle.office_base.proofs.Lists.{get-after}

@@ -1,6 +1,6 @@
 -- What the checks of a cut are made over.
 use Rattle.std.specs.Prelude.{◌≡◌, ◌<◌, List, Option}
-use Rattle.office_base.specs.declared.asks.Seat.{Seat}
+use Rattle.office_base.specs.declared.seat.Seat.{Seat}
 use Rattle.seat_matrix.specs.Matrix.{SeatTable}
 use Rattle.office_moves.specs.Facts.{IsSound, SeasonFacts}
 use Rattle.office_moves.specs.Raised.{matrix_at}

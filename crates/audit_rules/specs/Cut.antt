@@ -1,10 +1,11 @@
 -- What is checked at a cut, by the state before it and the papers: clause by clause, and which clause is broken first.
 use Rattle.std.specs.Prelude.{◌≡◌, ◌≢◌, ◌<◌, ◌↔◌, ℕ, Bool, true, false, List, [], ◌∷◌, Option, Some, None, IsSome, IsTrue, ◌==◌, length, slice_get, if◌then◌else◌}
-use Rattle.office_base.specs.declared.asks.Seat.{Seat}
+use Rattle.office_base.specs.declared.seat.Seat.{Seat}
 use Rattle.office_base.specs.declared.person.CandId.{CandId}
 use Rattle.office_base.specs.declared.person.Person.{Person}
 use Rattle.office_base.specs.declared.person.ProgId.{ProgId}
-use Rattle.office_base.specs.declared.step.StepKind.{StepKind}
+use Rattle.office_base.specs.declared.seat.SeatKind.{SeatKind}
+use Rattle.office_base.specs.declared.seat.SeatKind.TheVariants.{Kept, Under}
 use Rattle.allocations.specs.Fair.{IsOwn}
 use Rattle.allocations.specs.Market.{Seeker, applicants, seat_at}
 use Rattle.choice_lists.specs.Choices.{list_of as choices_of}
@@ -61,10 +62,14 @@ abbrev pub is_named : ℕ → List Person → Bool
 is_named id [] = false
 is_named id (person ∷ people) = if person.id.0 == id then true else is_named id people
 
--- The lists of the programme name the candidate under exactly that step under which the round's text gives a seat of it.
+-- whom the lists of the programme name for a kind of seat: those whom the list of the step names, and for a kept seat nobody
+abbrev pub named_for : Programme → SeatKind → List Person
+named_for programme (Under kind) = (list_of_step programme kind).admitted
+named_for programme Kept = []
+
+-- The lists of the programme name the candidate for exactly that kind of seat which the round's text gives.
 abbrev pub Agree : Papers → State → ℕ → Programme → Person → Type 0
-Agree papers state p programme person =
-    (kind : StepKind) → IsTrue (is_named person.id.0 (list_of_step programme kind).admitted) ↔ (seat_given papers state person.id.0 ≡ Some (seat_at p kind))
+Agree papers state p programme person = (kind : SeatKind) → IsTrue (is_named person.id.0 (named_for programme kind)) ↔ (seat_given papers state person.id.0 ≡ Some (seat_at p kind))
 
 -- it holds of each of some people
 abbrev pub OfEach : (Person → Type 0) → List Person → Type 0

@@ -2,8 +2,9 @@
 use Rattle.std.specs.Prelude.{◌≡◌, ◌<◌, ◌+◌, ◌⊎◌, ℕ, suc, Bool, true, false, List, [], ◌∷◌, ◌++◌, Option, Some, None, length, map, slice_get}
 use Rattle.office_base.specs.CategorySteps.{all_steps}
 use Rattle.office_base.specs.Lists.{IsAmong}
-use Rattle.office_base.specs.declared.asks.Seat.{Seat}
+use Rattle.office_base.specs.declared.seat.Seat.{Seat}
 use Rattle.office_base.specs.declared.person.Person.{Person}
+use Rattle.office_base.specs.declared.seat.SeatKind.TheVariants.{Under}
 use Rattle.office_base.specs.declared.step.StepKind.{StepKind}
 use Rattle.list_audit.specs.Clauses.{list_of_step}
 use Rattle.programme_lists.specs.declared.programme.Programme.{Programme}
@@ -13,7 +14,7 @@ use Rattle.audit_rules.specs.declared.unlisted.Miss.{Miss}
 
 -- the entries of one step's list
 abbrev pub of_step : ℕ → StepKind → List Person → List Entry
-of_step p kind people = map (λ person. record { seat = record { prog = record { 0 = p }; step = kind }; cand = person.id }) people
+of_step p kind people = map (λ person. record { seat = record { prog = record { 0 = p }; step = Under kind }; cand = person.id }) people
 
 abbrev pub of_kind : ℕ → Programme → StepKind → List Entry
 of_kind p programme kind = of_step p kind (list_of_step programme kind).admitted

@@ -3,7 +3,7 @@ use Rattle.std.specs.Prelude.{◌≡◌, ◌<◌, ◌+◌, ◌*◌, ℕ, true, B
 use Rattle.office_base.specs.declared.asks.Ask.{Ask}
 use Rattle.office_base.specs.declared.asks.Ask.TheVariants.{Cut}
 use Rattle.office_base.specs.declared.asks.Request.{Request}
-use Rattle.office_base.specs.declared.asks.Seat.{Seat}
+use Rattle.office_base.specs.declared.seat.Seat.{Seat}
 use Rattle.allocations.specs.Fair.{HasClaim, IsFair}
 use Rattle.allocations.specs.Market.{applicants}
 use Rattle.list_audit.specs.Clauses.{named_by}
@@ -19,7 +19,7 @@ use Rattle.office_moves.specs.declared.decide.Decision.TheVariants.{Publish, Fin
 use Rattle.programme_lists.specs.Chosen.{ChoosesFrom}
 use Rattle.programme_lists.specs.declared.programme.Programme.{Programme}
 use Rattle.round_options.specs.Options.{holds}
-use Rattle.rounds.specs.Rule.{rule_of, seekers_of}
+use Rattle.rounds.specs.Rule.{nobody, rule_of, seekers_of}
 use Rattle.rounds.specs.declared.round.Round.{Round}
 use Rattle.seat_matrix.specs.Matrix.{seats_in}
 use Rattle.audit_rules.specs.Papers.{Papers}
@@ -48,13 +48,13 @@ pub record AreWhole (facts : SeasonFacts) (script : List Request) (papers : Pape
 -- The lists of each programme name its choice from those who apply to it, and nobody has a justified claim.
 -- A candidate whose standing was freeze, float or slide had a seat, and has one that is no worse.
 pub record IsFairCut (facts : SeasonFacts) (state : State) (round : Round) : Type 0 where
-  pub fair : IsFair (rule_of facts.version (matrix_at facts state)) (length facts.matrix.programmes) (seekers_of (matrix_at facts state) facts.people (lists_in_order facts) round.seeks) round.seats
+  pub fair : IsFair (rule_of facts.version nobody (matrix_at facts state)) (length facts.matrix.programmes) (seekers_of (matrix_at facts state) facts.people (lists_in_order facts) round.seeks) round.seats
   pub count : length round.programmes ≡ length facts.matrix.programmes
   pub shown : (p : ℕ) (programme : Programme) → slice_get round.programmes p ≡ Some programme
       → ChoosesFrom facts.version (seats_in (matrix_at facts state) p)
       (applicants p (seekers_of (matrix_at facts state) facts.people (lists_in_order facts) round.seeks) round.seats) (named_by programme)
   pub no_claim : (p i : ℕ) → p < length facts.matrix.programmes
-      → HasClaim (rule_of facts.version (matrix_at facts state)) (seekers_of (matrix_at facts state) facts.people (lists_in_order facts) round.seeks) round.seats i p → ⊥
+      → HasClaim (rule_of facts.version nobody (matrix_at facts state)) (seekers_of (matrix_at facts state) facts.people (lists_in_order facts) round.seeks) round.seats i p → ⊥
   pub nobody_falls : (id : ℕ) → holds (standing_at facts (view_of state id) id state.now) ≡ true
       → (old new : Seat) × (last_seat facts state.rounds id ≡ Some old) × (seat_of facts (Some round) id ≡ Some new)
       × IsNoWorse facts (standing_at facts (view_of state id) id state.now) id old new

@@ -1,6 +1,6 @@
 -- What holds of the state of a replay whose cuts broke no clause.
 use Rattle.std.specs.Prelude.{◌≡◌, ◌≤◌, ◌<◌, ℕ, true, [], Some, IsSome, length}
-use Rattle.office_base.specs.declared.asks.Seat.{Seat}
+use Rattle.office_base.specs.declared.seat.Seat.{Seat}
 use Rattle.allocations.specs.Market.{place_of}
 use Rattle.choice_lists.specs.Choices.{list_of}
 use Rattle.office_moves.specs.Facts.{SeasonFacts}

@@ -5,7 +5,9 @@ ghost use Rattle.audit_rules.specs.Comes.{told_by};
 ghost use Rattle.audit_rules.specs.Entries.{entries_from, of_kind, of_programme, of_step};
 
 use list_texts::ListRead;
-use office_base::{ALL_STEPS, CandId, OutOfMemory, Person, ProgId, Seat, StepKind, step_number};
+use office_base::{
+    ALL_STEPS, CandId, OutOfMemory, Person, ProgId, Seat, SeatKind, StepKind, step_number,
+};
 use programme_lists::Programme;
 use std::alloc::Global;
 
@@ -27,7 +29,10 @@ fn push_step(
 {
     for person in named {
         entries.push(Entry {
-            seat: Seat { prog, step },
+            seat: Seat {
+                prog,
+                step: SeatKind::Under(step),
+            },
             cand: person.id,
         })?;
     }

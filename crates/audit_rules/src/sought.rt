@@ -2,7 +2,7 @@
 ghost use Rattle.std.specs.Prelude.{◌≡◌, ◌<◌, ◌≤◌, ◌↔◌, IfNone, IfSome, IsSome, IsTrue, Some, false, is_some, length, option_map, true};
 ghost use Rattle.allocations.specs.Fair.{IsOwn};
 ghost use Rattle.allocations.specs.Market.{place_of};
-ghost use Rattle.office_base.specs.declared.asks.Seat.{Seat as AnySeat};
+ghost use Rattle.office_base.specs.declared.seat.Seat.{Seat as AnySeat};
 ghost use Rattle.season_facts.specs.Season.{facts_of};
 ghost use Rattle.round_options.specs.Options.{holds};
 ghost use Rattle.seeks.specs.Seek.{AreBelow, seek_leaves};

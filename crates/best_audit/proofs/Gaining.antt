@@ -5,7 +5,7 @@ use Rattle.std.proofs.lemmas.Bool.{cases_eq}
 use Rattle.std.proofs.lemmas.List.{length-map}
 use Rattle.std.proofs.lemmas.Option.{same_Some, slice_get-get_or, slice_get_within}
 use Rattle.office_base.proofs.Lists.{all-get, there_is}
-use Rattle.office_base.specs.declared.asks.Seat.{Seat}
+use Rattle.office_base.specs.declared.seat.Seat.{Seat}
 use Rattle.office_base.specs.declared.person.Person.{Person}
 use Rattle.office_base.specs.declared.person.ProgId.{ProgId}
 use Rattle.kept_rows.specs.declared.rows.AllotRow.{AllotRow}
@@ -14,7 +14,7 @@ use Rattle.allocations.specs.Market.{Seeker, rank_of}
 use Rattle.choice_lists.specs.Choices.{list_of}
 use Rattle.history_laws.proofs.Entering.{list_there, lists_full, own_there}
 use Rattle.rounds.specs.Round.{IsRound}
-use Rattle.rounds.specs.Rule.{AreSeeks, rule_of, seekers_of}
+use Rattle.rounds.specs.Rule.{AreSeeks, nobody, rule_of, seekers_of}
 use Rattle.rounds.specs.declared.round.Round.{Round}
 use Rattle.seat_matrix.specs.Matrix.{SeatTable}
 use Rattle.seeks.specs.Seek.{AreBelow, IsWithinList, seek_leaves}
@@ -147,14 +147,14 @@ nobody_gains facts at matrix seeks best seats k c end earlier = record {
 -- ---- what is compared at a cut
 
 best_as : (facts : SeasonFacts) (state : State) (matrix : SeatTable) (seeks : List Seek) (seats : List (Option Seat)) → matrix ≡ matrix_at facts state → (matrix_at facts state).programmes ≡ facts.matrix.programmes
-    → seeks ≡ next_seeks facts state → IsBest (rule_of facts.version matrix) (length matrix.programmes) (seekers_of matrix facts.people (lists_in_order facts) seeks) seats → AreBestAt facts state seats
+    → seeks ≡ next_seeks facts state → IsBest (rule_of facts.version nobody matrix) (length matrix.programmes) (seekers_of matrix facts.people (lists_in_order facts) seeks) seats → AreBestAt facts state seats
 best_as facts state matrix seeks seats same programmes sought best =
-    subst (λ (n : ℕ). IsBest (rule_of facts.version (matrix_at facts state)) n (seekers_at facts state) seats) (ap (λ z. length z) programmes)
-    (subst (λ (q : List Seek). IsBest (rule_of facts.version (matrix_at facts state)) (length (matrix_at facts state).programmes) (seekers_of (matrix_at facts state) facts.people (lists_in_order facts) q) seats) sought
-    (subst (λ (m : SeatTable). IsBest (rule_of facts.version m) (length m.programmes) (seekers_of m facts.people (lists_in_order facts) seeks) seats) same best))
+    subst (λ (n : ℕ). IsBest (rule_of facts.version nobody (matrix_at facts state)) n (seekers_at facts state) seats) (ap (λ z. length z) programmes)
+    (subst (λ (q : List Seek). IsBest (rule_of facts.version nobody (matrix_at facts state)) (length (matrix_at facts state).programmes) (seekers_of (matrix_at facts state) facts.people (lists_in_order facts) q) seats) sought
+    (subst (λ (m : SeatTable). IsBest (rule_of facts.version nobody m) (length m.programmes) (seekers_of m facts.people (lists_in_order facts) seeks) seats) same best))
 
 pub compared : (facts : SeasonFacts) (at : Setting) (papers : Papers) (auditor : Auditor) (matrix : SeatTable) (n : ℕ) (seeks told : List Seek) (round : Round) (best seats : List (Option Seat)) (rows : List AllotRow)
-    → at.papers ≡ papers → IsUpTo facts at.state auditor → matrix ≡ auditor.raised.matrix → seeks ≡ next_seeks facts at.state → IsRound facts.version matrix facts.people (lists_in_order facts) n seeks round
+    → at.papers ≡ papers → IsUpTo facts at.state auditor → matrix ≡ auditor.raised.matrix → seeks ≡ next_seeks facts at.state → IsRound facts.version nobody matrix facts.people (lists_in_order facts) n seeks round
     → told ≡ round.seeks → best ≡ round.seats → rows ≡ rows_after papers auditor.window → seats ≡ seats_told rows facts.people → IsFairText facts at.papers at.state
     → AreCompared facts at matrix told best seats
 compared facts at papers auditor matrix n seeks told round best seats rows these upto raised sought made as_seeks as_best row given fair =

@@ -1,11 +1,11 @@
 -- The second verdict of an audit: every published round is the best one, or which round is the first that is not.
 use Rattle.std.specs.Prelude.{◌≡◌, ◌<◌, ◌+◌, ℕ, List, Option, Some, length, slice_get}
 use Rattle.office_base.specs.declared.asks.Request.{Request}
-use Rattle.office_base.specs.declared.asks.Seat.{Seat}
+use Rattle.office_base.specs.declared.seat.Seat.{Seat}
 use Rattle.office_base.specs.declared.person.CandId.{CandId}
 use Rattle.allocations.specs.Fair.{IsBest}
 use Rattle.allocations.specs.Market.{Seeker, rank_of}
-use Rattle.rounds.specs.Rule.{rule_of}
+use Rattle.rounds.specs.Rule.{nobody, rule_of}
 use Rattle.office_moves.specs.Decided.{decided}
 use Rattle.office_moves.specs.Facts.{SeasonFacts}
 use Rattle.office_moves.specs.Raised.{matrix_at}
@@ -21,7 +21,7 @@ use Rattle.best_audit.specs.declared.verdict.BestVerdict.TheVariants.{Best, NotB
 
 -- the seats are the best allocation at a cut: by the matrix as it was raised, on what everybody sought
 abbrev pub AreBestAt : SeasonFacts → State → List (Option Seat) → Type 0
-AreBestAt facts state seats = IsBest (rule_of facts.version (matrix_at facts state)) (length facts.matrix.programmes) (seekers_at facts state) seats
+AreBestAt facts state seats = IsBest (rule_of facts.version nobody (matrix_at facts state)) (length facts.matrix.programmes) (seekers_at facts state) seats
 
 -- the seats that the text of the round gives, along the people
 abbrev pub seats_given : SeasonFacts → Papers → State → List (Option Seat)

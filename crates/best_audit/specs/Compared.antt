@@ -1,10 +1,10 @@
 -- What the round of a cut is compared over, and what the comparison finds.
 use Rattle.std.specs.Prelude.{◌≡◌, List, Option, Some, None, length}
 use Rattle.office_base.specs.declared.asks.Request.{Request}
-use Rattle.office_base.specs.declared.asks.Seat.{Seat}
+use Rattle.office_base.specs.declared.seat.Seat.{Seat}
 use Rattle.office_base.specs.declared.person.CandId.{CandId}
 use Rattle.allocations.specs.Fair.{IsFair}
-use Rattle.rounds.specs.Rule.{AreSeeks, rule_of}
+use Rattle.rounds.specs.Rule.{AreSeeks, nobody, rule_of}
 use Rattle.seat_matrix.specs.Matrix.{SeatTable}
 use Rattle.seeks.specs.declared.seek.Seek.{Seek}
 use Rattle.office_moves.specs.Decided.{decided}
@@ -26,7 +26,7 @@ pub record Setting : Type 0 where
 -- the round that the text gives is fair
 abbrev pub IsFairText : SeasonFacts → Papers → State → Type 0
 IsFairText facts papers state =
-    IsFair (rule_of facts.version (matrix_at facts state)) (length facts.matrix.programmes) (seekers_at facts state) (seats_given facts papers state)
+    IsFair (rule_of facts.version nobody (matrix_at facts state)) (length facts.matrix.programmes) (seekers_at facts state) (seats_given facts papers state)
 
 -- The matrix and the seeks are those of the state, the first seats are the best ones, and the second seats are those of the text, which are fair.
 pub record AreCompared (facts : SeasonFacts) (at : Setting) (matrix : SeatTable) (seeks : List Seek) (best seats : List (Option Seat)) : Type 0 where

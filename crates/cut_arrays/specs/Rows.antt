@@ -1,6 +1,6 @@
 -- The rows of seats, along the people.
 use Rattle.std.specs.Prelude.{ℕ, List, [], ◌∷◌, Option, None, if◌then◌else◌}
-use Rattle.office_base.specs.declared.asks.Seat.{Seat}
+use Rattle.office_base.specs.declared.seat.Seat.{Seat}
 use Rattle.office_base.specs.declared.person.Person.{Person}
 use Rattle.kept_rows.specs.declared.rows.AllotRow.{AllotRow}
 use Rattle.round_options.specs.Options.{holds}

@@ -6,7 +6,7 @@ use Rattle.std.proofs.lemmas.Option.{slice_get_within}
 use Rattle.std.proofs.lemmas.Slice.Eq.{bytes_eq-Decides}
 use Rattle.office_base.proofs.Lists.{all-get, there_is}
 use Rattle.office_base.specs.Lists.{Pairwise}
-use Rattle.office_base.specs.declared.asks.Seat.{Seat}
+use Rattle.office_base.specs.declared.seat.Seat.{Seat}
 use Rattle.office_base.specs.declared.person.Person.{Person}
 use Rattle.office_base.specs.declared.person.ProgId.{ProgId}
 use Rattle.allocations.specs.Fair.{IsFair, IsNextMarket, IsOwn}
@@ -20,7 +20,7 @@ use Rattle.seeks.specs.Seek.{are_together, is_beside, is_left, same_institute, s
 use Rattle.seeks.specs.declared.seek.Seek.{Seek}
 use Rattle.seeks.specs.declared.seek.Seek.TheVariants.{Whole, Nothing}
 use Rattle.seeks.proofs.Left.{leaves_same}
-use Rattle.rounds.specs.Rule.{MayApplyIn, ProgrammesChooseWell, ProgrammesGrow, rule_of}
+use Rattle.rounds.specs.Rule.{MayApplyIn, ProgrammesChooseWell, ProgrammesGrow, nobody, rule_of}
 use Rattle.rounds.specs.declared.round.Round.{Round}
 use Rattle.rounds.proofs.Entrants.{market}
 use Rattle.round_options.specs.Options.{holds, seek_after}
@@ -245,15 +245,15 @@ never_without facts state before id old sound well grow course fit known back ke
     let made = course.made before known.round known.is in
     let raised = course.raised (suc before) in
     let of_table = entrants facts table sound (course.programmes (suc before)) in
-    let fair' : IsFair (rule_of facts.version more) (length table.programmes) (seekers_then facts state (suc before)) back.next.seats =
-    subst (λ (ps : List (List ℕ × Home)). IsFair (rule_of facts.version more) (length ps) (seekers_then facts state (suc before)) back.next.seats)
+    let fair' : IsFair (rule_of facts.version nobody more) (length table.programmes) (seekers_then facts state (suc before)) back.next.seats =
+    subst (λ (ps : List (List ℕ × Home)). IsFair (rule_of facts.version nobody more) (length ps) (seekers_then facts state (suc before)) back.next.seats)
     raised.programmes (course.made (suc before) back.next back.is).best.fair in
     let held : slice_get known.round.seats known.place ≡ Some (Some (seat_at old.prog.0 old.step)) = known.has in
     let empty : slice_get back.next.seats known.place ≡ Some None = subst (λ o. slice_get back.next.seats known.place ≡ Some o) none back.at in
-    falls.nobody_falls (rule_of facts.version table) (rule_of facts.version more) (MayApplyIn table) (length table.programmes) old.prog.0 known.place
+    falls.nobody_falls (rule_of facts.version nobody table) (rule_of facts.version nobody more) (MayApplyIn table) (length table.programmes) old.prog.0 known.place
     (seekers_then facts state before) (seekers_then facts state (suc before)) known.round.seats back.next.seats known.s back.t old.step
-    (market table facts.people (lists_in_order facts) (seeks_then facts state before) (course.seats (suc before)) of_table) (well facts.version table (course.seats (suc before)))
-    (grow facts.version table more (course.seats (suc before)) (course.seats (suc (suc before))) raised) made.best.fair fair'
+    (market table facts.people (lists_in_order facts) (seeks_then facts state before) (course.seats (suc before)) of_table) (well facts.version nobody table (course.seats (suc before)))
+    (grow facts.version nobody nobody table more (λ p person sure. sure) (course.seats (suc before)) (course.seats (suc (suc before))) raised) made.best.fair fair'
     (next_market facts state before known.round sound course fit known.is) (in_matrix facts state before id (suc before) old course known) known.there back.there held
     (wants_again facts state before id old course known back keeps) empty
 

@@ -14,7 +14,7 @@ use Rattle.programme_lists.specs.declared.programme.Programme.{Programme}
 use Rattle.programme_lists.specs.declared.programme.StepList.{StepList}
 use Rattle.programme_cutoffs.specs.Laws.{ListsAreKept}
 use Rattle.list_cutoffs.specs.Cutoffs.{AreKeptListed, kept_listed}
-use Rattle.rounds.specs.Rule.{MayApplyIn, ProgrammesChooseWell, rule_of, seekers_of}
+use Rattle.rounds.specs.Rule.{MayApplyIn, ProgrammesChooseWell, nobody, rule_of, seekers_of}
 use Rattle.rounds.specs.declared.round.Round.{Round}
 use Rattle.rounds.proofs.Entrants.{market}
 use Rattle.office_moves.specs.Facts.{IsSound, SeasonFacts, lists_in_order}
@@ -55,7 +55,7 @@ kept_in facts state before round prog programme sound well kept course is there 
     let count = made.count in
     let below : prog < length table.programmes = omega (arith, inside, count) in
     let enter = market table facts.people (lists_in_order facts) (seeks_then facts state before) seats (entrants facts table sound (course.programmes (suc before))) in
-    let may = applicants_may (rule_of facts.version table) (MayApplyIn table) (length table.programmes) prog seekers round.seats enter (well facts.version table seats) below
+    let may = applicants_may (rule_of facts.version nobody table) (MayApplyIn table) (length table.programmes) prog seekers round.seats enter (well facts.version nobody table seats) below
     made.best.fair.allocation.full in
     all_weaker (λ (list : StepList). IsStepKept (kept_listed (seats_in table prog) list)) (λ (list : StepList). IsStepKept (kept_listed (seats_in facts.matrix prog) list))
     (λ list holds. subst IsStepKept (same_kept facts state course prog (suc before) list) holds) programme.steps

@@ -4,7 +4,7 @@ use Rattle.std.specs.Prelude.{slice_get, option_map}
 use Rattle.std.proofs.lemmas.Bool.{cases_order}
 use Rattle.std.proofs.lemmas.Option.{slice_get_within}
 use Rattle.office_base.proofs.Lists.{get-after, get-before}
-use Rattle.office_base.specs.declared.asks.Seat.{Seat}
+use Rattle.office_base.specs.declared.seat.Seat.{Seat}
 use Rattle.office_base.specs.declared.person.Person.{Person}
 use Rattle.kept_rows.specs.declared.rows.AllotRow.{AllotRow}
 use Rattle.kept_rows.specs.declared.rows.RaiseRow.{RaiseRow}
@@ -13,6 +13,7 @@ use Rattle.choice_lists.specs.Choices.{list_of}
 use Rattle.seat_matrix.specs.Matrix.{SeatTable}
 use Rattle.seeks.specs.declared.seek.Seek.{Seek}
 use Rattle.rounds.specs.Round.{IsRound}
+use Rattle.rounds.specs.Rule.{nobody}
 use Rattle.rounds.specs.declared.round.Round.{Round}
 use Rattle.round_options.specs.Options.{holds, seek_after}
 use Rattle.round_options.specs.declared.standing.Standing.{Standing}
@@ -60,25 +61,25 @@ seeks_next facts old same =
 -- the rounds of a state were made so
 abbrev pub AreMade : SeasonFacts → State → Type 0
 AreMade facts state = (before : ℕ) (round : Round) → slice_get state.rounds before ≡ Some round
-    → IsRound facts.version (matrix_of_round facts state (suc before)) facts.people (lists_in_order facts) (before + 1) (seeks_then facts state before) round
+    → IsRound facts.version nobody (matrix_of_round facts state (suc before)) facts.people (lists_in_order facts) (before + 1) (seeks_then facts state before) round
 
 made_again : (facts : SeasonFacts) (old new : State) (before : ℕ) (round : Round) → matrix_of_round facts new (suc before) ≡ matrix_of_round facts old (suc before)
     → seeks_then facts new before ≡ seeks_then facts old before
-    → IsRound facts.version (matrix_of_round facts old (suc before)) facts.people (lists_in_order facts) (before + 1) (seeks_then facts old before) round
-    → IsRound facts.version (matrix_of_round facts new (suc before)) facts.people (lists_in_order facts) (before + 1) (seeks_then facts new before) round
+    → IsRound facts.version nobody (matrix_of_round facts old (suc before)) facts.people (lists_in_order facts) (before + 1) (seeks_then facts old before) round
+    → IsRound facts.version nobody (matrix_of_round facts new (suc before)) facts.people (lists_in_order facts) (before + 1) (seeks_then facts new before) round
 made_again facts old new before round matrix seeks made =
-    subst (λ (m : SeatTable). IsRound facts.version m facts.people (lists_in_order facts) (before + 1) (seeks_then facts new before) round) (sym matrix)
-    (subst (λ (z : List Seek). IsRound facts.version (matrix_of_round facts old (suc before)) facts.people (lists_in_order facts) (before + 1) z round) (sym seeks) made)
+    subst (λ (m : SeatTable). IsRound facts.version nobody m facts.people (lists_in_order facts) (before + 1) (seeks_then facts new before) round) (sym matrix)
+    (subst (λ (z : List Seek). IsRound facts.version nobody (matrix_of_round facts old (suc before)) facts.people (lists_in_order facts) (before + 1) z round) (sym seeks) made)
 
 -- the round that was just published
 made_now : (facts : SeasonFacts) (old : State) (round : Round) → Runs facts old → length old.rounds ≡ old.now → IsNextRound facts old round
-    → IsRound facts.version (matrix_of_round facts (with_round old round) (suc old.now)) facts.people (lists_in_order facts) (old.now + 1) (seeks_then facts (with_round old round) old.now) round
+    → IsRound facts.version nobody (matrix_of_round facts (with_round old round) (suc old.now)) facts.people (lists_in_order facts) (old.now + 1) (seeks_then facts (with_round old round) old.now) round
 made_now facts old round runs same next =
     let matrix : matrix_of_round facts (with_round old round) (suc old.now) ≡ matrix_at facts old = ap (λ (z : List RaiseRow). raised facts.matrix z) (runs.raises (suc old.now) (omega arith)) in
     let seeks : seeks_then facts (with_round old round) old.now ≡ next_seeks facts old =
     seeks_stay facts old (with_round old round) old.now (λ id. published_stays facts old round old.now id (omega (arith, same))) ∙ seeks_next facts old same in
-    subst (λ (m : SeatTable). IsRound facts.version m facts.people (lists_in_order facts) (old.now + 1) (seeks_then facts (with_round old round) old.now) round) (sym matrix)
-    (subst (λ (z : List Seek). IsRound facts.version (matrix_at facts old) facts.people (lists_in_order facts) (old.now + 1) z round) (sym seeks) next)
+    subst (λ (m : SeatTable). IsRound facts.version nobody m facts.people (lists_in_order facts) (old.now + 1) (seeks_then facts (with_round old round) old.now) round) (sym matrix)
+    (subst (λ (z : List Seek). IsRound facts.version nobody (matrix_at facts old) facts.people (lists_in_order facts) (old.now + 1) z round) (sym seeks) next)
 
 -- a round of the list with one more is one of the list, or the new one at the end
 last_or_before : (rounds : List Round) (last : Round) (before : ℕ) (round : Round) → slice_get (rounds ++ last ∷ []) before ≡ Some round
@@ -124,8 +125,8 @@ made_follows facts old new act runs after made (Publishes window round asks is c
           (made before other past.1)
       | inr last ↦
           let at : old.now ≡ before = sym (last.0 ∙ same) in
-          subst (λ (n : ℕ). IsRound facts.version (matrix_of_round facts (with_round old round) (suc n)) facts.people (lists_in_order facts) (n + 1) (seeks_then facts (with_round old round) n) other) at
-          (subst (λ (r : Round). IsRound facts.version (matrix_of_round facts (with_round old round) (suc old.now)) facts.people (lists_in_order facts) (old.now + 1) (seeks_then facts (with_round old round) old.now) r)
+          subst (λ (n : ℕ). IsRound facts.version nobody (matrix_of_round facts (with_round old round) (suc n)) facts.people (lists_in_order facts) (n + 1) (seeks_then facts (with_round old round) n) other) at
+          (subst (λ (r : Round). IsRound facts.version nobody (matrix_of_round facts (with_round old round) (suc old.now)) facts.people (lists_in_order facts) (old.now + 1) (seeks_then facts (with_round old round) old.now) r)
           last.1 (made_now facts old round runs same next))
     ])
 made_follows facts old new act runs after made (Finishes window asks is cuts last e) =

@@ -3,7 +3,7 @@ use Rattle.std.proofs.Common.{◌≡◌, ◌⊎◌, inl, inr, ℕ, suc, true, Li
 use Rattle.std.specs.Prelude.{slice_get, IsSome}
 use Rattle.allocations.specs.Market.{applicants}
 use Rattle.allocations.proofs.Claims.{fair_justified}
-use Rattle.rounds.specs.Rule.{AreSeeks, MayApplyIn, ProgrammesChooseWell, ProgrammesGrow, rule_of, seekers_of}
+use Rattle.rounds.specs.Rule.{AreSeeks, MayApplyIn, ProgrammesChooseWell, ProgrammesGrow, nobody, rule_of, seekers_of}
 use Rattle.rounds.specs.declared.round.Round.{Round}
 use Rattle.rounds.proofs.Entrants.{market}
 use Rattle.seat_matrix.specs.Matrix.{seats_in}
@@ -26,8 +26,8 @@ just facts state before round sound well course is =
     let table = matrix_of_round facts state (suc before) in
     let made = course.made before round is in
     let of_table = entrants facts table sound (course.programmes (suc before)) in
-    let justified = fair_justified (rule_of facts.version table) (MayApplyIn table) (length table.programmes) (seekers_then facts state before) round.seats
-    (market table facts.people (lists_in_order facts) (seeks_then facts state before) (course.seats (suc before)) of_table) (well facts.version table (course.seats (suc before))) made.best.fair in
+    let justified = fair_justified (rule_of facts.version nobody table) (MayApplyIn table) (length table.programmes) (seekers_then facts state before) round.seats
+    (market table facts.people (lists_in_order facts) (seeks_then facts state before) (course.seats (suc before)) of_table) (well facts.version nobody table (course.seats (suc before))) made.best.fair in
     record {
       count = made.count;
       shown = λ p programme at. subst (λ seeks. ShowsFrom facts.version (seats_in table p) (applicants p (seekers_of table facts.people (lists_in_order facts) seeks) round.seats) programme) (sym made.sought)

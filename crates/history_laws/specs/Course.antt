@@ -8,7 +8,7 @@ use Rattle.choice_lists.specs.Choices.{list_of}
 use Rattle.seat_matrix.specs.Matrix.{AreSeats}
 use Rattle.seeks.specs.declared.seek.Seek.{Seek}
 use Rattle.rounds.specs.Round.{IsRound}
-use Rattle.rounds.specs.Rule.{IsRaised}
+use Rattle.rounds.specs.Rule.{IsRaised, nobody}
 use Rattle.rounds.specs.declared.round.Round.{Round}
 use Rattle.round_options.specs.Options.{may_follow, seek_after, standing_of}
 use Rattle.round_options.specs.declared.standing.Standing.{Standing}
@@ -45,7 +45,7 @@ pub record IsCourse (facts : SeasonFacts) (state : State) : Type 0 where
   pub few : length state.rounds ≤ facts.rounds
   -- each round was made by the matrix and the seeks at its cut
   pub made : (before : ℕ) (round : Round) → slice_get state.rounds before ≡ Some round
-      → IsRound facts.version (matrix_of_round facts state (suc before)) facts.people (lists_in_order facts) (before + 1) (seeks_then facts state before) round
+      → IsRound facts.version nobody (matrix_of_round facts state (suc before)) facts.people (lists_in_order facts) (before + 1) (seeks_then facts state before) round
   pub answers : (window id : ℕ) → AnsweredWell facts state window id
   -- seats only rise
   pub seats : (n : ℕ) → AreSeats (matrix_of_round facts state n)

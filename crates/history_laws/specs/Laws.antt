@@ -8,7 +8,7 @@ use Rattle.list_cutoffs.specs.Cutoffs.{AreKeptListed}
 use Rattle.seeks.specs.declared.seek.Seek.{Seek}
 use Rattle.rounds.specs.Round.{IsRound}
 use Rattle.rounds.specs.declared.round.Round.{Round}
-use Rattle.rounds.specs.Rule.{IsRaised}
+use Rattle.rounds.specs.Rule.{IsRaised, nobody}
 use Rattle.office_moves.specs.Facts.{IsSound, SeasonFacts, lists_in_order}
 use Rattle.office_moves.specs.State.{State, opening, round_at}
 use Rattle.office_moves.specs.Raised.{matrix_at, matrix_of_round}
@@ -65,8 +65,8 @@ SeatsOnlyRise facts = IsSound facts → (entries : List Entry) (state : State) �
 -- Two rounds of a season by one matrix, on one seek for each of the people, are one.
 abbrev pub RoundsAreOne : Type 0
 RoundsAreOne = (facts : SeasonFacts) (table : SeatTable) (n : ℕ) (seeks : List Seek) (first second : Round) → IsSound facts → AreSeats table
-    → table.programmes ≡ facts.matrix.programmes → IsRound facts.version table facts.people (lists_in_order facts) n seeks first
-    → IsRound facts.version table facts.people (lists_in_order facts) n seeks second → first ≡ second
+    → table.programmes ≡ facts.matrix.programmes → IsRound facts.version nobody table facts.people (lists_in_order facts) n seeks first
+    → IsRound facts.version nobody table facts.people (lists_in_order facts) n seeks second → first ≡ second
 
 -- A request after a history has one reply, and leads to one state.
 abbrev pub AnswersAreOne : Type 0

@@ -9,7 +9,7 @@ use Rattle.office_base.specs.Person.{IsBetter}
 use Rattle.office_base.specs.StepChoice.{AreRanked}
 use Rattle.office_base.specs.declared.person.ListId.{ListId}
 use Rattle.office_base.specs.declared.person.Person.{Person}
-use Rattle.office_base.proofs.Lists.{all_weaker, all_push}
+use Rattle.office_base.proofs.Lists.{all_at, all_push, all_weaker}
 use Rattle.placements.specs.Ranks.{AreDistinct}
 use Rattle.list_audit.specs.Clauses.{IsFirstOutside}
 use Rattle.list_audit.proofs.ListPlaces.{split_at_place}
@@ -49,16 +49,11 @@ dropped_at [] (suc n) k x far e = absurd (cc)
 dropped_at (y ∷ xs) (suc n) zero x far e = absurd (omega (arith, far))
 dropped_at (y ∷ xs) (suc n) (suc k) x far e = dropped_at xs n k x (omega (arith, far)) e
 
-all_got : {X : Type 0} (P : X → Type 0) (xs : List X) (k : ℕ) (x : X) → AllByRecursion P xs → slice_get xs k ≡ Some x → P x
-all_got P [] k x all e = absurd (cc)
-all_got P (y ∷ xs) zero x all e = let same : y ≡ x = cc in subst P same all.0
-all_got P (y ∷ xs) (suc k) x all e = all_got P xs k x all.1 e
-
 -- of two places the person at the first is better
 better_at : (list : ListId) (people : List Person) (j k : ℕ) (a b : Person) → Pairwise (IsBetter list) people → slice_get people j ≡ Some a → slice_get people k ≡ Some b → j < k → IsBetter list a b
 better_at list [] j k a b order at at' less = absurd (cc)
 better_at list (one ∷ people) j zero a b order at at' less = absurd (omega (arith, less))
-better_at list (one ∷ people) zero (suc k) a b order at at' less = let same : one ≡ a = cc in subst (λ (p : Person). IsBetter list p b) same (all_got (IsBetter list one) people k b order.0 at')
+better_at list (one ∷ people) zero (suc k) a b order at at' less = let same : one ≡ a = cc in subst (λ (p : Person). IsBetter list p b) same (all_at (IsBetter list one) people k b order.0 at')
 better_at list (one ∷ people) (suc j) (suc k) a b order at at' less = better_at list people j k a b order.1 at at' (omega (arith, less))
 
 pair_end : {X : Type 0} (R : X → X → Type 0) (xs : List X) (x : X) → Pairwise R xs → AllByRecursion (λ y. R y x) xs → Pairwise R (xs ++ x ∷ [])

@@ -2,7 +2,7 @@
 use Rattle.std.specs.Prelude.{◌≡◌, ◌+◌, ℕ, zero, suc, nat_lt, List, [], ◌∷◌, ◌++◌, Option, Some, None, length, map, option_map, slice_get, if◌then◌else◌}
 use Rattle.std.specs.Option.{unwrap_or}
 use Rattle.office_base.specs.declared.asks.Request.{Request}
-use Rattle.office_base.specs.declared.asks.Seat.{Seat}
+use Rattle.office_base.specs.declared.seat.Seat.{Seat}
 use Rattle.office_base.specs.declared.person.CandId.{CandId}
 use Rattle.office_base.specs.declared.person.Person.{Person}
 use Rattle.office_base.specs.declared.person.ProgId.{ProgId}
@@ -18,6 +18,7 @@ use Rattle.list_cutoffs.specs.Cutoffs.{AreCutoffsIn}
 use Rattle.list_cutoffs.specs.declared.cutoffs.StepCutoff.{StepCutoff}
 use Rattle.seeks.specs.declared.seek.Seek.{Seek}
 use Rattle.rounds.specs.Round.{IsRound, seated}
+use Rattle.rounds.specs.Rule.{nobody}
 use Rattle.rounds.specs.declared.round.Round.{Round}
 use Rattle.round_options.specs.Options.{holds, seek_after}
 use Rattle.round_options.specs.declared.standing.Standing.{Standing}
@@ -48,7 +49,7 @@ next_seeks facts state = map (λ person. next_seek facts state person.id.0) fact
 -- The round may follow: it is the one after those published, by the raised matrix, on what everybody seeks next.
 abbrev pub IsNextRound : SeasonFacts → State → Round → Type 0
 IsNextRound facts state round =
-    IsRound facts.version (matrix_at facts state) facts.people (lists_in_order facts) (state.now + 1) (next_seeks facts state) round
+    IsRound facts.version nobody (matrix_at facts state) facts.people (lists_in_order facts) (state.now + 1) (next_seeks facts state) round
 
 -- ---- the final rows
 

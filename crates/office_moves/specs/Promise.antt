@@ -1,6 +1,6 @@
 -- What the office promises of every state that a history reaches.
 use Rattle.std.specs.Prelude.{◌≡◌, ◌<◌, ◌≤◌, ◌+◌, ℕ, suc, true, List, Option, Some, None, IsSome, length, map, option_map, slice_get, if◌then◌else◌}
-use Rattle.office_base.specs.declared.asks.Seat.{Seat}
+use Rattle.office_base.specs.declared.seat.Seat.{Seat}
 use Rattle.kept_rows.specs.declared.rows.AllotRow.{AllotRow}
 use Rattle.allocations.specs.Fair.{HasClaim, IsBest}
 use Rattle.allocations.specs.Market.{applicants, place_of}
@@ -10,7 +10,7 @@ use Rattle.programme_lists.specs.declared.programme.Programme.{Programme}
 use Rattle.seat_matrix.specs.Matrix.{SeatTable, seats_in}
 use Rattle.seeks.specs.Seek.{same_institute}
 use Rattle.seeks.specs.declared.seek.Seek.{Seek}
-use Rattle.rounds.specs.Rule.{rule_of, seekers_of}
+use Rattle.rounds.specs.Rule.{nobody, rule_of, seekers_of}
 use Rattle.rounds.specs.declared.round.Round.{Round}
 use Rattle.round_options.specs.Options.{holds, seek_after}
 use Rattle.round_options.specs.declared.standing.Standing.{Standing}
@@ -27,8 +27,8 @@ pub record IsJust (facts : SeasonFacts) (matrix : SeatTable) (round : Round) : T
   pub shown : (p : ℕ) (programme : Programme) → slice_get round.programmes p ≡ Some programme
       → ShowsFrom facts.version (seats_in matrix p) (applicants p (seekers_of matrix facts.people (lists_in_order facts) round.seeks) round.seats) programme
   pub no_claim : (p i : ℕ) → p < length matrix.programmes
-      → HasClaim (rule_of facts.version matrix) (seekers_of matrix facts.people (lists_in_order facts) round.seeks) round.seats i p → ⊥
-  pub best : IsBest (rule_of facts.version matrix) (length matrix.programmes) (seekers_of matrix facts.people (lists_in_order facts) round.seeks) round.seats
+      → HasClaim (rule_of facts.version nobody matrix) (seekers_of matrix facts.people (lists_in_order facts) round.seeks) round.seats i p → ⊥
+  pub best : IsBest (rule_of facts.version nobody matrix) (length matrix.programmes) (seekers_of matrix facts.people (lists_in_order facts) round.seeks) round.seats
 
 -- the standing of a candidate at the cut of a window
 abbrev pub standing_then : SeasonFacts → State → ℕ → ℕ → Standing

@@ -3,7 +3,7 @@ use Rattle.std.specs.Prelude.{◌+◌, ℕ, zero, suc, ◌==◌, ◌&&◌, nat_l
 use Rattle.std.specs.Option.{option_and_then}
 use Rattle.office_base.specs.Person.{at_person}
 use Rattle.office_base.specs.declared.asks.Choice.{Choice}
-use Rattle.office_base.specs.declared.asks.Seat.{Seat}
+use Rattle.office_base.specs.declared.seat.Seat.{Seat}
 use Rattle.kept_rows.specs.declared.rows.AllotRow.{AllotRow}
 use Rattle.kept_rows.specs.declared.rows.AnswerRow.{AnswerRow}
 use Rattle.kept_rows.specs.declared.rows.RaiseRow.{RaiseRow}

@@ -1,7 +1,7 @@
 -- Why a candidate has no seat of a programme, or has one.
 use Rattle.std.specs.Prelude.{Bool, false, ◌==◌, nat_lt, Option, Some, None, slice_get, if◌then◌else◌}
 use Rattle.office_base.specs.Person.{at_person}
-use Rattle.office_base.specs.declared.asks.Seat.{Seat}
+use Rattle.office_base.specs.declared.seat.Seat.{Seat}
 use Rattle.office_base.specs.declared.person.CandId.{CandId}
 use Rattle.office_base.specs.declared.person.Person.{Person}
 use Rattle.office_base.specs.declared.person.ProgId.{ProgId}

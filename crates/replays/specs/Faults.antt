@@ -1,7 +1,7 @@
 -- Why records are not replayed: the first fault by windows, and inside a window the raises first, then the answers, then the cut and its seats. Kept seats of rounds that
 -- no counted cut publishes come last.
 use Rattle.std.specs.Prelude.{◌≡◌, ◌<◌, ◌+◌, ◌⊎◌, ℕ, Option, Result, Ok, Err}
-use Rattle.office_base.specs.declared.asks.Seat.{Seat}
+use Rattle.office_base.specs.declared.seat.Seat.{Seat}
 use Rattle.office_base.specs.declared.person.CandId.{CandId}
 use Rattle.kept_rows.specs.declared.rows.Kept.{Kept}
 use Rattle.office_moves.specs.Facts.{SeasonFacts}

@@ -1,6 +1,6 @@
 // The kept seats of a round against those that were computed.
 ghost use Rattle.std.specs.Prelude.{◌≡◌, ◌∷◌, [], ℕ, List, Option, IfOk, length};
-ghost use Rattle.office_base.specs.declared.asks.Seat.{Seat as AnySeat};
+ghost use Rattle.office_base.specs.declared.seat.Seat.{Seat as AnySeat};
 ghost use Rattle.kept_rows.specs.declared.rows.AllotRow.{AllotRow as AnyRow};
 ghost use Rattle.office_moves.specs.Stands.{first_allot};
 ghost use Rattle.replays.specs.Differences.{AreFound, IsComparison, IsComparisonOf, IsFirstPlace, IsOfNobody, IsOfPeople, IsStranger, seat_along};

@@ -1,9 +1,9 @@
 -- The line that reports why kept records do not replay.
 use Rattle.std.specs.Prelude.{ℕ, List, Option, Some, None, ◌++◌, codes, length, nat_lt, if◌then◌else◌}
 use Rattle.std.specs.Fmt.{decimal}
-use Rattle.office_base.specs.declared.asks.Seat.{Seat}
+use Rattle.office_base.specs.declared.seat.Seat.{Seat}
 use Rattle.seat_matrix.specs.Matrix.{SeatTable}
-use Rattle.step_lines.specs.Lines.{step_name}
+use Rattle.step_lines.specs.Lines.{seat_kind_name}
 use Rattle.published_texts.specs.Texts.{code_in}
 use Rattle.replays.specs.declared.fault.ReplayFault.{ReplayFault}
 use Rattle.replays.specs.declared.fault.ReplayFault.TheVariants.{Stray, StrayRaise, Differs, OutOfMemory}
@@ -16,7 +16,7 @@ code_or_mark table prog = if nat_lt prog (length table.programmes) then code_in 
 -- a seat, or that there is none
 abbrev pub seat_or_none : SeatTable → Option Seat → List ℕ
 seat_or_none table None = codes "none"
-seat_or_none table (Some seat) = code_or_mark table seat.prog.0 ++ codes " " ++ step_name seat.step
+seat_or_none table (Some seat) = code_or_mark table seat.prog.0 ++ codes " " ++ seat_kind_name seat.step
 
 -- the line of a candidate whose kept seat is not the computed one
 abbrev pub differs_line : SeatTable → ℕ → ℕ → Option Seat → Option Seat → List ℕ

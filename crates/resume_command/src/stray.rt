@@ -8,7 +8,7 @@ use office_base::{CandId, OutOfMemory, ProgId, Seat, Text};
 use office_text::push_number;
 use seat_matrix::Matrix;
 use std::alloc::Global;
-use step_lines::step_name;
+use step_lines::seat_kind_name;
 
 /// Returns the line of a row of a table, counted from 1, that is not newly accepted at its place.
 /// `words` name the table.
@@ -56,7 +56,7 @@ fn push_seat(out: &mut Text, matrix: &Matrix, seat: Option<Seat>) -> Result<(), 
     };
     push_code(out, matrix, seat.prog)?;
     out.extend_from_slice(b" ")?;
-    out.extend_from_slice(step_name(seat.step).as_bytes())
+    out.extend_from_slice(seat_kind_name(seat.step).as_bytes())
 }
 
 /// Puts the code of a programme, or `?` if the matrix has none of this number.

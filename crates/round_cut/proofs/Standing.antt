@@ -4,7 +4,7 @@ use Rattle.std.specs.Prelude.{◌&&◌}
 use Rattle.std.proofs.lemmas.Bool.{cases_Bool, eq-eqb, eqb-true}
 use Rattle.std.specs.Option.{option_and_then}
 use Rattle.office_base.specs.Person.{at_person}
-use Rattle.office_base.specs.declared.asks.Seat.{Seat}
+use Rattle.office_base.specs.declared.seat.Seat.{Seat}
 use Rattle.office_base.specs.declared.person.CandId.{CandId}
 use Rattle.office_base.specs.declared.person.Person.{Person}
 use Rattle.kept_rows.specs.Tables.{AreTold, IsFound, IsTold, Tables, Untold, NoSeason, Records, opening_records, still, with_answer, with_cut, with_raise, with_season}

@@ -15,7 +15,7 @@ use Rattle.allocations.specs.Market.{Seeker, applicants}
 use Rattle.allocations.proofs.Claims.{applicants_may}
 use Rattle.rounds.specs.Round.{IsRound}
 use Rattle.rounds.specs.declared.round.Round.{Round}
-use Rattle.rounds.specs.Rule.{MayApplyIn, ProgrammesChooseWell, rule_of, seekers_of}
+use Rattle.rounds.specs.Rule.{MayApplyIn, ProgrammesChooseWell, nobody, rule_of, seekers_of}
 use Rattle.rounds.proofs.Entrants.{market}
 use Rattle.round_laws.specs.Laws.{lists_in}
 use Rattle.round_laws.proofs.Season.{entrants}
@@ -37,14 +37,14 @@ can_be_listed well slots kept facts table rows body special sound is =
     let people = season.register.people in
     let lists = lists_in season.choices in
     let register : facts.people ≡ people = ap (λ (r : Ranks). r.people) (sym is.season.register) in
-    let made : IsRound facts.version season.matrix people lists 1 (all_whole people) special.round =
-    subst (λ (l : List Person). IsRound facts.version season.matrix l lists 1 (all_whole l) special.round) register is.round in
+    let made : IsRound facts.version nobody season.matrix people lists 1 (all_whole people) special.round =
+    subst (λ (l : List Person). IsRound facts.version nobody season.matrix l lists 1 (all_whole l) special.round) register is.round in
     let seekers : List Seeker = seekers_of season.matrix people lists (all_whole people) in
     let enter = market season.matrix people lists (all_whole people) sound.seats (entrants (register_of (facts_of season)) season.matrix season.choices sound.ranks sound.choices sound.aligned) in
     let below : (p : ℕ) (programme : Programme) → slice_get special.round.programmes p ≡ Some programme → p < length season.matrix.programmes =
     λ p programme shows. (let inside = slice_get_within special.round.programmes p programme shows in let count = made.count in omega (arith, inside, count)) in
     let may : (p : ℕ) (less : p < length season.matrix.programmes) → MayApplyIn season.matrix p (applicants p seekers special.round.seats) =
-    λ p less. applicants_may (rule_of facts.version season.matrix) (MayApplyIn season.matrix) (length season.matrix.programmes) p seekers special.round.seats enter (well facts.version season.matrix sound.seats) less made.best.fair.allocation.full in
+    λ p less. applicants_may (rule_of facts.version nobody season.matrix) (MayApplyIn season.matrix) (length season.matrix.programmes) p seekers special.round.seats enter (well facts.version nobody season.matrix sound.seats) less made.best.fair.allocation.full in
     record {
       count = made.count;
       slots = λ p programme shows.

@@ -3,7 +3,7 @@ use Rattle.std.proofs.Common.{◌≡◌, ◌<◌, ℕ, zero, List, [], Option, S
 use Rattle.std.specs.Prelude.{slice_get}
 use Rattle.std.proofs.lemmas.List.{length-map}
 use Rattle.std.proofs.lemmas.Option.{slice_get_within}
-use Rattle.office_base.specs.declared.asks.Seat.{Seat}
+use Rattle.office_base.specs.declared.seat.Seat.{Seat}
 use Rattle.office_base.specs.declared.person.Person.{Person}
 use Rattle.office_base.specs.declared.person.ProgId.{ProgId}
 use Rattle.office_base.proofs.Lists.{all_from, there_is}
@@ -16,7 +16,7 @@ use Rattle.allocations.specs.Fair.{IsOwn}
 use Rattle.allocations.specs.Market.{Seeker, place_of}
 use Rattle.allocations.proofs.Places.{place_read}
 use Rattle.rounds.specs.Round.{IsRound}
-use Rattle.rounds.specs.Rule.{AreEntrants, seekers_of}
+use Rattle.rounds.specs.Rule.{AreEntrants, nobody, seekers_of}
 use Rattle.rounds.proofs.Entrants.{length_seekers, market}
 use Rattle.round_laws.specs.Laws.{lists_in}
 use Rattle.round_laws.proofs.Season.{aligned_length, entrants, length_lists}
@@ -34,8 +34,8 @@ can_be_shown facts table rows body special sound is =
     let people = season.register.people in
     let lists = lists_in season.choices in
     let register : facts.people ≡ people = ap (λ (r : Ranks). r.people) (sym is.season.register) in
-    let made : IsRound facts.version season.matrix people lists 1 (all_whole people) special.round =
-    subst (λ (l : List Person). IsRound facts.version season.matrix l lists 1 (all_whole l) special.round) register is.round in
+    let made : IsRound facts.version nobody season.matrix people lists 1 (all_whole people) special.round =
+    subst (λ (l : List Person). IsRound facts.version nobody season.matrix l lists 1 (all_whole l) special.round) register is.round in
     let entries : length lists ≡ length people = length_lists season.choices ∙ aligned_length season.choices people sound.aligned in
     let whole : length (all_whole people) ≡ length lists = length-map people (λ (person : Person). Whole) ∙ sym entries in
     let seekers : List Seeker = seekers_of season.matrix people lists (all_whole people) in

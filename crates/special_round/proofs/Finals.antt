@@ -3,8 +3,9 @@ use Rattle.std.proofs.Common.{◌≡◌, ◌<◌, ◌≤◌, ◌+◌, ◌-◌, �
 use Rattle.std.specs.Prelude.{slice_get}
 use Rattle.std.proofs.lemmas.Bool.{cases_Bool, cases_lt, cond-false, cond-true}
 use Rattle.office_base.specs.CategorySteps.{category_steps}
+use Rattle.office_base.specs.SeatKinds.{seat_kind_number}
 use Rattle.office_base.specs.StepNumbers.{step_number}
-use Rattle.office_base.specs.declared.asks.Seat.{Seat}
+use Rattle.office_base.specs.declared.seat.Seat.{Seat}
 use Rattle.office_base.specs.declared.person.CandId.{CandId}
 use Rattle.office_base.specs.declared.person.Person.{Person}
 use Rattle.office_base.specs.declared.step.StepKind.{StepKind}
@@ -49,7 +50,7 @@ row_less number prog step cand given None rows n (inr same) less =
     subst (λ g. rows_of_step (row_before number cand g rows) prog step ≤ n) (sym same) less
 row_less number prog step cand given (Some seat) rows n (inr same) less =
     subst (λ g. rows_of_step (row_before number cand g rows) prog step ≤ (if is_seat_of prog step (Some seat) then suc n else n)) (sym same)
-    (more_one ((seat.prog.0 == prog) && (step_number seat.step == step_number step)) _ n less)
+    (more_one ((seat.prog.0 == prog) && (seat_kind_number seat.step == step_number step)) _ n less)
 
 pub rows_few : (number prog : ℕ) (step : StepKind) (given : ℕ → Option Seat) (people : List Person) (seats : List (Option Seat)) → length seats ≡ length people
     → ((i : ℕ) (person : Person) (seat : Option Seat) → slice_get people i ≡ Some person → slice_get seats i ≡ Some seat → (given person.id.0 ≡ None) ⊎ (given person.id.0 ≡ seat))

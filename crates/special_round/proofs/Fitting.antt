@@ -9,6 +9,7 @@ use Rattle.office_base.specs.declared.category_steps.CategoryStep.{CategoryStep}
 use Rattle.office_base.specs.declared.category_steps.GivesUp.{GivesUp}
 use Rattle.office_base.specs.declared.category_steps.GivesUp.TheVariants.{Never, InVersion, Always}
 use Rattle.office_base.specs.declared.person.Person.{Person}
+use Rattle.office_base.specs.declared.seat.SeatKind.TheVariants.{Under}
 use Rattle.office_base.specs.declared.step.StepKind.{StepKind}
 use Rattle.office_base.specs.declared.step.StepKind.TheVariants.{Dereserved}
 use Rattle.office_base.proofs.Lists.{there_is, length_take_most}
@@ -20,7 +21,7 @@ use Rattle.programme_lists.specs.Chosen.{ChoosesFrom}
 use Rattle.programme_lists.specs.Programme.{Admissions, admitted_by, people_of, unfilled}
 use Rattle.open_then_category.specs.Laws.{OneProgrammeChoice}
 use Rattle.programme_lists.proofs.Seats.{own_seats}
-use Rattle.rounds.specs.Rule.{MayApplyIn, ProgrammesChooseWell, rule_of, seekers_of}
+use Rattle.rounds.specs.Rule.{MayApplyIn, ProgrammesChooseWell, nobody, rule_of, seekers_of}
 use Rattle.rounds.proofs.Entrants.{market}
 use Rattle.office_moves.proofs.Sums.{rows_less}
 use Rattle.special_round.specs.Laws.{FitInto, RoundsFit}
@@ -93,7 +94,7 @@ rounds_fit well one version number table people lists seeks round prog seats ent
     let fair = is.best.fair in
     let enter = market table people lists seeks seats entrants in
     let all : List Person = applicants prog seekers round.seats in
-    let may = applicants_may (rule_of version table) (MayApplyIn table) (length table.programmes) prog seekers round.seats enter (well version table seats) below fair.allocation.full in
+    let may = applicants_may (rule_of version nobody table) (MayApplyIn table) (length table.programmes) prog seekers round.seats enter (well version nobody table seats) below fair.allocation.full in
     let programme = there_is round.programmes prog (omega (arith, below, is.count)) in
     let shown = is.shown prog programme.0 programme.1 in
     let admissions : Admissions = shown.0 in
@@ -101,7 +102,7 @@ rounds_fit well one version number table people lists seeks round prog seats ent
     fewer_fit table prog (seats_of_step round.seats prog) (λ step. length (admitted_by admissions step))
     (λ step. held_within prog step seekers round.seats (admitted_by admissions step) fair.allocation.full enter.ids
     (λ i s there has.
-    let admits = (fair.agrees prog i s step below there).1 has in
+    let admits = (fair.agrees prog i s (Under step) below there).1 has in
     let same = one version (seats_in table prog) all admits.0 admissions (seats.sound prog below) may admits.1 choice in
     subst (λ (a : Admissions). IsAmong s.person (admitted_by a step)) same admits.2))
     (admitted_fit version table prog all admissions choice)

@@ -4,12 +4,15 @@ use Rattle.std.specs.Prelude.{slice_get}
 use Rattle.std.specs.List.{AllByRecursion}
 use Rattle.std.proofs.lemmas.Bool.{eqb-true, and_parts}
 use Rattle.office_base.specs.Lists.{AnyByRecursion, IsAmong, Pairwise}
-use Rattle.office_base.specs.declared.asks.Seat.{Seat}
+use Rattle.office_base.specs.declared.seat.Seat.{Seat}
+use Rattle.office_base.specs.declared.seat.SeatKind.{SeatKind}
+use Rattle.office_base.specs.declared.seat.SeatKind.TheVariants.{Under}
 use Rattle.office_base.specs.declared.person.CandId.{CandId}
 use Rattle.office_base.specs.declared.person.Person.{Person}
 use Rattle.office_base.specs.declared.step.StepKind.{StepKind}
+use Rattle.office_base.specs.SeatKinds.{seat_kind_number}
 use Rattle.office_base.specs.StepNumbers.{step_number}
-use Rattle.office_base.proofs.StepNumbers.{one_number}
+use Rattle.office_base.proofs.SeatKinds.{one_seat_kind}
 use Rattle.placements.specs.Ranks.{AreAmong, AreDistinct, without}
 use Rattle.placements.proofs.Without.{among_without, length_without}
 use Rattle.allocations.specs.Market.{Seeker, seat_at, those}
@@ -38,14 +41,14 @@ no_more (x ∷ xs) ys distinct among =
 
 -- ---- the seat of a step
 
-same_seat : (seat : Seat) (prog : ℕ) (step : StepKind) → seat.prog.0 ≡ prog → seat.step ≡ step → seat ≡ seat_at prog step
+same_seat : (seat : Seat) (prog : ℕ) (step : SeatKind) → seat.prog.0 ≡ prog → seat.step ≡ step → seat ≡ seat_at prog step
 same_seat seat prog step first second = ap (λ n. seat_at n seat.step) first ∙ ap (λ k. seat_at prog k) second
 
-pub seat_is : (prog : ℕ) (step : StepKind) (seat : Option Seat) → is_seat_of prog step seat ≡ true → seat ≡ Some (seat_at prog step)
+pub seat_is : (prog : ℕ) (step : StepKind) (seat : Option Seat) → is_seat_of prog step seat ≡ true → seat ≡ Some (seat_at prog (Under step))
 seat_is prog step None e = absurd (cc)
 seat_is prog step (Some seat) e =
-    let parts = and_parts (seat.prog.0 == prog) (step_number seat.step == step_number step) e in
-    ap Some (same_seat seat prog step (eqb-true seat.prog.0 prog parts.0) (one_number seat.step step (eqb-true (step_number seat.step) (step_number step) parts.1)))
+    let parts = and_parts (seat.prog.0 == prog) (seat_kind_number seat.step == step_number step) e in
+    ap Some (same_seat seat prog (Under step) (eqb-true seat.prog.0 prog parts.0) (one_seat_kind seat.step (Under step) (eqb-true (seat_kind_number seat.step) (step_number step) parts.1)))
 
 -- ---- those who hold one
 
@@ -67,7 +70,7 @@ length_those prog step (s ∷ seekers) (seat ∷ seats) full =
 
 -- each of them is one of those of whom every holder is one
 pub all_under : (P : Person → Type 0) (prog : ℕ) (step : StepKind) (seekers : List Seeker) (seats : List (Option Seat))
-    → ((i : ℕ) (s : Seeker) → slice_get seekers i ≡ Some s → slice_get seats i ≡ Some (Some (seat_at prog step)) → P s.person)
+    → ((i : ℕ) (s : Seeker) → slice_get seekers i ≡ Some s → slice_get seats i ≡ Some (Some (seat_at prog (Under step))) → P s.person)
     → AllByRecursion P (those_under prog step seekers seats)
 all_under P prog step [] seats h = tt
 all_under P prog step (s ∷ seekers) [] h = tt
@@ -95,7 +98,7 @@ distinct_under prog step (s ∷ seekers) (seat ∷ seats) distinct =
 -- Where everybody who holds a seat of the programme under the step is one of these people, no more seats of it are held than they are.
 pub held_within : (prog : ℕ) (step : StepKind) (seekers : List Seeker) (seats : List (Option Seat)) (admitted : List Person) → length seats ≡ length seekers
     → Pairwise (λ (a b : Seeker). a.person.id ≢ b.person.id) seekers
-    → ((i : ℕ) (s : Seeker) → slice_get seekers i ≡ Some s → slice_get seats i ≡ Some (Some (seat_at prog step)) → IsAmong s.person admitted)
+    → ((i : ℕ) (s : Seeker) → slice_get seekers i ≡ Some s → slice_get seats i ≡ Some (Some (seat_at prog (Under step))) → IsAmong s.person admitted)
     → seats_of_step seats prog step ≤ length admitted
 held_within prog step seekers seats admitted full distinct holds =
     let less = no_more (those_under prog step seekers seats) admitted (distinct_under prog step seekers seats distinct)

@@ -8,8 +8,9 @@ use Rattle.office_base.proofs.Lists.{all-get}
 use Rattle.office_base.specs.Lists.{Pairwise}
 use Rattle.office_base.specs.Merit.{CanBeRanked}
 use Rattle.office_base.specs.Person.{IsTraitSet, number_in}
+use Rattle.office_base.specs.SeatKinds.{seat_kind_number}
 use Rattle.office_base.specs.StepNumbers.{step_number}
-use Rattle.office_base.specs.declared.asks.Seat.{Seat}
+use Rattle.office_base.specs.declared.seat.Seat.{Seat}
 use Rattle.office_base.specs.declared.person.CandId.{CandId}
 use Rattle.office_base.specs.declared.person.ListId.{ListId}
 use Rattle.office_base.specs.declared.person.Person.{Person}
@@ -177,7 +178,7 @@ finals_can_be_ranked ranks table rows prog step sound finals =
     all_finals Placed people rows prog step (known_rows _ Placed people rows prog step finals.placed
     (λ row person known passes found.
     let same = some_person known.0 person (sym known.1 ∙ found) in
-    let there : row.prog.0 ≡ prog = eqb-true row.prog.0 prog (and_parts (row.prog.0 == prog) (step_number row.step == step_number step) passes).0 in
+    let there : row.prog.0 ≡ prog = eqb-true row.prog.0 prog (and_parts (row.prog.0 == prog) (seat_kind_number row.step == step_number step) passes).0 in
     subst (λ n. IsSome (number_in (list_in table n) person)) there (subst (λ (p : Person). IsSome (number_in (list_in table row.prog.0) p)) same known.2))) in
     record {
       traits = all_finals (λ person. IsTraitSet person.traits) people rows prog step (known_rows _ _ people rows prog step finals.placed

@@ -3,6 +3,7 @@ use Rattle.std.proofs.Common.{◌≡◌, ◌-◌, ℕ, suc, Bool, true, false, L
 use Rattle.std.specs.List.{filter}
 use Rattle.office_base.specs.CategorySteps.{row_of}
 use Rattle.office_base.specs.Merit.{CanBeRanked}
+use Rattle.office_base.specs.SeatKinds.{seat_kind_number}
 use Rattle.office_base.specs.StepNumbers.{step_number}
 use Rattle.office_base.specs.declared.person.Person.{Person}
 use Rattle.office_base.specs.declared.step.StepKind.{StepKind}
@@ -27,7 +28,7 @@ more_if false c test row own n is same = same
 pub count_own : (rows : List AllotRow) (prog : ℕ) (step : StepKind) → rows_of_step (own_rows rows prog) prog step ≡ rows_of_step rows prog step
 count_own [] prog step = refl
 count_own (row ∷ rows) prog step =
-    more_if (row.prog.0 == prog) (step_number row.step == step_number step) (is_row_of prog step) row (own_rows rows prog) (rows_of_step rows prog step) refl (count_own rows prog step)
+    more_if (row.prog.0 == prog) (seat_kind_number row.step == step_number step) (is_row_of prog step) row (own_rows rows prog) (rows_of_step rows prog step) refl (count_own rows prog step)
 
 persons_if : (people : List Person) (b c : Bool) (prog : ℕ) (step : StepKind) (row : AllotRow) (own : List AllotRow) (persons : List Person) → is_row_of prog step row ≡ (b && c)
     → finals_of people own prog step ≡ persons
@@ -38,7 +39,7 @@ persons_if people false c prog step row own persons is same = same
 pub finals_own : (people : List Person) (rows : List AllotRow) (prog : ℕ) (step : StepKind) → finals_of people (own_rows rows prog) prog step ≡ finals_of people rows prog step
 finals_own people [] prog step = refl
 finals_own people (row ∷ rows) prog step =
-    persons_if people (row.prog.0 == prog) (step_number row.step == step_number step) prog step row (own_rows rows prog) (finals_of people rows prog step) refl (finals_own people rows prog step)
+    persons_if people (row.prog.0 == prog) (seat_kind_number row.step == step_number step) prog step row (own_rows rows prog) (finals_of people rows prog step) refl (finals_own people rows prog step)
 
 pub seats_own : (table : SeatTable) (rows : List AllotRow) (prog : ℕ) (step : StepKind) → seats_left table (own_rows rows prog) prog step ≡ seats_left table rows prog step
 seats_own table rows prog step =

@@ -1,12 +1,15 @@
 -- Final rows and the seats of a round over what they left are together within the seats of a programme.
-use Rattle.std.proofs.Common.{◌≡◌, ◌<◌, ◌≤◌, ◌+◌, ◌-◌, inl, inr, ℕ, Bool, true, false, List, [], ◌∷◌, Option, Some, None, length, arith, refl, sym, ap, ◌∙◌, subst, nat_lt, ◌==◌, ◌&&◌, if◌then◌else◌}
+use Rattle.std.proofs.Common.{◌≡◌, ◌<◌, ◌≤◌, ◌+◌, ◌-◌, inl, inr, ℕ, suc, Bool, true, false, List, [], ◌∷◌, Option, Some, None, length, arith, refl, sym, ap, ◌∙◌, subst, nat_lt, ◌==◌, ◌&&◌, if◌then◌else◌}
 use Rattle.std.specs.Prelude.{sum_by}
 use Rattle.std.proofs.lemmas.Bool.{and_parts, le-ltb, lt-ltb, ltb-true}
 use Rattle.std.proofs.lemmas.List.Sums.{sum_by-cons}
 use Rattle.office_base.specs.CategorySteps.{all_steps, category_steps}
 use Rattle.office_base.specs.Lists.{IsAmong}
+use Rattle.office_base.specs.SeatKinds.{seat_kind_number}
 use Rattle.office_base.specs.StepNumbers.{step_number}
-use Rattle.office_base.specs.declared.asks.Seat.{Seat}
+use Rattle.office_base.specs.declared.seat.Seat.{Seat}
+use Rattle.office_base.specs.declared.seat.SeatKind.{SeatKind}
+use Rattle.office_base.specs.declared.seat.SeatKind.TheVariants.{Kept, Under}
 use Rattle.office_base.specs.declared.category_steps.CategoryStep.{CategoryStep}
 use Rattle.office_base.specs.declared.step.StepKind.{StepKind}
 use Rattle.office_base.specs.declared.step.StepKind.TheVariants.{Open, Dereserved}
@@ -16,20 +19,33 @@ use Rattle.programme_lists.proofs.Table.{row_facts}
 use Rattle.office_moves.proofs.Sums.{one_more, rows_less, rows_minus, rows_same}
 use Rattle.special_round.specs.Laws.{RoundsFit, TogetherWithin}
 use Rattle.special_round.specs.Remaining.{may_be_taken, own_left, taken_from}
-use Rattle.special_round.specs.Rows.{rows_in, rows_of_step, seats_held, seats_of_step}
+use Rattle.special_round.specs.Rows.{is_of_a_step, rows_in, rows_of_step, seats_held, seats_of_step}
 
 -- ---- all steps together
+
+-- a kept seat is one of no step
+beside : (f : StepKind → ℕ) (step : StepKind) → f step ≡ (if seat_kind_number Kept == step_number step then suc (f step) else f step)
+beside f Open = refl
+beside f step = refl
+
+-- one more of a step is one more of all steps, and one more that is kept is none
+one_of : (kind : SeatKind) (b : Bool) (f : StepKind → ℕ) (all : ℕ) → all ≡ sum_by f all_steps
+    → (if b && is_of_a_step kind then suc all else all) ≡ sum_by (λ step. if b && (seat_kind_number kind == step_number step) then suc (f step) else f step) all_steps
+one_of (Under step) true f all same = one_more step true f all same
+one_of (Under step) false f all same = same
+one_of Kept true f all same = same ∙ ap (λ (g : StepKind → ℕ). sum_by g all_steps) (λ i step. beside f step i)
+one_of Kept false f all same = same
 
 -- the rows of a programme are those of its steps
 pub rows_split : (rows : List AllotRow) (prog : ℕ) → rows_in rows prog ≡ sum_by (rows_of_step rows prog) all_steps
 rows_split [] prog = refl
-rows_split (row ∷ rows) prog = one_more row.step (row.prog.0 == prog) (rows_of_step rows prog) (rows_in rows prog) (rows_split rows prog)
+rows_split (row ∷ rows) prog = one_of row.step (row.prog.0 == prog) (rows_of_step rows prog) (rows_in rows prog) (rows_split rows prog)
 
 -- and so are its seats
 pub seats_split : (seats : List (Option Seat)) (prog : ℕ) → seats_held seats prog ≡ sum_by (seats_of_step seats prog) all_steps
 seats_split [] prog = refl
 seats_split (None ∷ seats) prog = seats_split seats prog
-seats_split (Some seat ∷ seats) prog = one_more seat.step (seat.prog.0 == prog) (seats_of_step seats prog) (seats_held seats prog) (seats_split seats prog)
+seats_split (Some seat ∷ seats) prog = one_of seat.step (seat.prog.0 == prog) (seats_of_step seats prog) (seats_held seats prog) (seats_split seats prog)
 
 -- ---- what rows of the de-reserved step take
 

@@ -5,7 +5,7 @@ use Rattle.std.proofs.lemmas.Bool.{cases_Bool, eqb-true}
 use Rattle.std.proofs.lemmas.Option.{slice_get_within}
 use Rattle.office_base.specs.Limits.{last_id}
 use Rattle.office_base.specs.Person.{at_person}
-use Rattle.office_base.specs.declared.asks.Seat.{Seat}
+use Rattle.office_base.specs.declared.seat.Seat.{Seat}
 use Rattle.office_base.specs.declared.person.Person.{Person}
 use Rattle.office_base.specs.declared.person.ProgId.{ProgId}
 use Rattle.office_base.proofs.Lists.{there_is}
@@ -25,7 +25,7 @@ use Rattle.choice_lists.proofs.ChoicesLemmas.{new_candidate_ok}
 use Rattle.choice_lists.proofs.FoundLemmas.{listed-or-none}
 use Rattle.allocations.specs.Market.{place_of}
 use Rattle.rounds.specs.Round.{IsRound}
-use Rattle.rounds.specs.Rule.{seekers_of}
+use Rattle.rounds.specs.Rule.{nobody, seekers_of}
 use Rattle.rounds.specs.declared.round.Round.{Round}
 use Rattle.rounds.proofs.Entrants.{entered, length_seekers}
 use Rattle.round_laws.specs.Laws.{lists_in}
@@ -103,7 +103,7 @@ unlisted ranks seats id finals rows lists final nobody read =
 -- who seeks nothing has no seat
 pub unseated : (version number : ℕ) (table : SeatTable) (ranks : Ranks) (lists : Lists) (seeks : List Seek) (round : Round) (id : ℕ) → AreRanks ranks
     → map (λ (held : ℕ × List ProgId). held.0) lists ≡ map (λ (p : Person). p.id.0) ranks.people → length seeks ≡ length (lists_in lists)
-    → IsRound version table ranks.people (lists_in lists) number seeks round → list_of lists id ≡ [] → option_and_then (λ (seat : Option Seat). seat) (at_person id ranks.people round.seats) ≡ None
+    → IsRound version nobody table ranks.people (lists_in lists) number seeks round → list_of lists id ≡ [] → option_and_then (λ (seat : Option Seat). seat) (at_person id ranks.people round.seats) ≡ None
 unseated version number table ranks lists seeks round id sound aligned full made empty = by (at_person id ranks.people round.seats) refl
   where
     none : (seat : Seat) → at_person id ranks.people round.seats ≡ Some (Some seat) → ⊥

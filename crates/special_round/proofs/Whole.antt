@@ -16,7 +16,7 @@ use Rattle.seeks.specs.declared.seek.Seek.TheVariants.{Whole}
 use Rattle.choice_lists.specs.Choices.{Lists}
 use Rattle.season_file.specs.declared.season.Season.{Season}
 use Rattle.rounds.specs.Round.{IsRound}
-use Rattle.rounds.specs.Rule.{AreEntrants, AreSeeks}
+use Rattle.rounds.specs.Rule.{AreEntrants, AreSeeks, nobody}
 use Rattle.rounds.specs.declared.round.Round.{Round}
 use Rattle.round_laws.specs.Laws.{lists_in}
 use Rattle.round_laws.proofs.Season.{aligned_length, length_lists}
@@ -63,7 +63,7 @@ all_final all P (row ∷ rows) within each = (
 )
 
 pub sit_out : (facts : SeasonFacts) (table : SeatTable) (rows : List AllotRow) (body : List ℕ) (season : Season) (round : Round) → IsSound facts → IsSound (facts_of season)
-    → IsLeftSeason facts table rows body season → IsRound facts.version season.matrix facts.people (lists_in season.choices) 1 (all_whole facts.people) round
+    → IsLeftSeason facts table rows body season → IsRound facts.version nobody season.matrix facts.people (lists_in season.choices) 1 (all_whole facts.people) round
     → AllByRecursion (λ (row : AllotRow). seat_of facts (Some round) row.cand.0 ≡ None) rows
 sit_out facts table rows body season round sound sound' left made =
     let people = facts.people in
@@ -80,16 +80,16 @@ pub is_special : (facts : SeasonFacts) (table : SeatTable) (rows : List AllotRow
     → IsSound (facts_of season) → TogetherWithin → table.programmes ≡ facts.matrix.programmes
     → ((prog : ℕ) → prog < length facts.matrix.programmes → FitInto table prog (rows_of_step rows prog))
     → IsLeftSeason facts table rows body season → vacant ≡ total_seats table - length rows → seeks ≡ all_whole season.register.people
-    → IsRound season.version season.matrix season.register.people (lists_in season.choices) 1 seeks round
+    → IsRound season.version nobody season.matrix season.register.people (lists_in season.choices) 1 seeks round
     → IsSpecialOver facts table rows body (record { season = season; vacant = vacant; round = round })
 is_special facts table rows body season vacant seeks round sound sound' together same fit left many whole made =
     let people = facts.people in
     let register : season.register.people ≡ people = ap (λ (r : Ranks). r.people) left.register in
-    let sought : IsRound season.version season.matrix season.register.people (lists_in season.choices) 1 (all_whole season.register.people) round =
-    subst (λ q. IsRound season.version season.matrix season.register.people (lists_in season.choices) 1 q round) whole made in
-    let here : IsRound facts.version season.matrix people (lists_in season.choices) 1 (all_whole people) round =
-    subst (λ (l : List Person). IsRound facts.version season.matrix l (lists_in season.choices) 1 (all_whole l) round) register
-    (subst (λ v. IsRound v season.matrix season.register.people (lists_in season.choices) 1 (all_whole season.register.people) round) left.version sought) in
+    let sought : IsRound season.version nobody season.matrix season.register.people (lists_in season.choices) 1 (all_whole season.register.people) round =
+    subst (λ q. IsRound season.version nobody season.matrix season.register.people (lists_in season.choices) 1 q round) whole made in
+    let here : IsRound facts.version nobody season.matrix people (lists_in season.choices) 1 (all_whole people) round =
+    subst (λ (l : List Person). IsRound facts.version nobody season.matrix l (lists_in season.choices) 1 (all_whole l) round) register
+    (subst (λ v. IsRound v nobody season.matrix season.register.people (lists_in season.choices) 1 (all_whole season.register.people) round) left.version sought) in
     let enter : AreEntrants season.matrix people (lists_in season.choices) =
     subst (λ (l : List Person). AreEntrants season.matrix l (lists_in season.choices)) register (entrants (facts_of season) season.matrix sound' refl) in
     record {

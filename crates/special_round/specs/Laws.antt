@@ -10,7 +10,7 @@ use Rattle.seat_matrix.specs.Matrix.{AreSeats, SeatTable, seating_in, steps_in}
 use Rattle.seat_matrix.specs.Seats.{is_dereserved}
 use Rattle.seeks.specs.declared.seek.Seek.{Seek}
 use Rattle.rounds.specs.Round.{IsRound}
-use Rattle.rounds.specs.Rule.{AreEntrants}
+use Rattle.rounds.specs.Rule.{AreEntrants, nobody}
 use Rattle.rounds.specs.declared.round.Round.{Round}
 use Rattle.office_moves.specs.Facts.{IsSound, SeasonFacts}
 use Rattle.office_moves.specs.Raised.{matrix_at, seats_in_all}
@@ -32,7 +32,7 @@ pub record FitInto (table : SeatTable) (prog : ℕ) (held : StepKind → ℕ) : 
 -- A round gives no more seats of a programme than there are, step by step.
 abbrev pub RoundsFit : Type 0
 RoundsFit = (version number : ℕ) (table : SeatTable) (people : List Person) (lists : List (List ProgId)) (seeks : List Seek) (round : Round) (prog : ℕ)
-    → AreSeats table → AreEntrants table people lists → IsRound version table people lists number seeks round → prog < length table.programmes
+    → AreSeats table → AreEntrants table people lists → IsRound version nobody table people lists number seeks round → prog < length table.programmes
     → FitInto table prog (seats_of_step round.seats prog)
 
 -- The final rows of a season fit into the raised matrix.
@@ -49,7 +49,7 @@ FinalsAreKnown = (facts : SeasonFacts) (state : State) (rows : List AllotRow) �
 abbrev pub TogetherWithin : Type 0
 TogetherWithin = (version number : ℕ) (table left : SeatTable) (people : List Person) (lists : List (List ProgId)) (seeks : List Seek) (rows : List AllotRow) (round : Round) (prog : ℕ)
     → AreSeats left → IsRemaining people rows table left → FitInto table prog (rows_of_step rows prog) → AreEntrants left people lists
-    → IsRound version left people lists number seeks round → prog < length table.programmes
+    → IsRound version nobody left people lists number seeks round → prog < length table.programmes
     → rows_in rows prog + seats_held round.seats prog ≤ seats_in_all (steps_in table prog)
 
 -- Over the tables of an office, lists may be handed in or have a fault that is no want of memory, never both, and one fault alone.

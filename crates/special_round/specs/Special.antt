@@ -8,6 +8,7 @@ use Rattle.seeks.specs.declared.seek.Seek.{Seek}
 use Rattle.seeks.specs.declared.seek.Seek.TheVariants.{Whole}
 use Rattle.round_laws.specs.Laws.{lists_in}
 use Rattle.rounds.specs.Round.{IsRound}
+use Rattle.rounds.specs.Rule.{nobody}
 use Rattle.office_moves.specs.Facts.{SeasonFacts}
 use Rattle.office_moves.specs.Raised.{matrix_at, seats_in_all, total_seats}
 use Rattle.office_moves.specs.State.{State, seat_of}
@@ -26,7 +27,7 @@ pub record IsSpecialOver (facts : SeasonFacts) (table : SeatTable) (rows : List 
   -- so many seats they left vacant
   pub vacant : special.vacant ≡ total_seats table - length rows
   -- its round is the round of that season, on the whole lists
-  pub round : IsRound facts.version special.season.matrix facts.people (lists_in special.season.choices) 1 (all_whole facts.people) special.round
+  pub round : IsRound facts.version nobody special.season.matrix facts.people (lists_in special.season.choices) 1 (all_whole facts.people) special.round
   -- nobody has both a final row and a seat of the round
   pub apart : AllByRecursion (λ row. seat_of facts (Some special.round) row.cand.0 ≡ None) rows
   -- the final rows and the seats of the round of a programme are together at most its seats

@@ -4,7 +4,7 @@ ghost use Rattle.std.specs.List.{filter};
 ghost use Rattle.special_round.specs.Rows.{finals_of, is_row_in, is_row_of, rows_of_step};
 
 use kept_rows::AllotRow;
-use office_base::{OutOfMemory, Person, ProgId, StepKind, step_number};
+use office_base::{OutOfMemory, Person, ProgId, StepKind, seat_kind_number, step_number};
 use rank_lists::Register;
 use std::alloc::Global;
 
@@ -29,7 +29,7 @@ pub(crate) fn rows_of_programme(
 fn is_of(row: &AllotRow, prog: ProgId, step: StepKind) -> bool
     ensures { result ≡ is_row_of prog.0 step row.now }
 {
-    row.prog.0 == prog.0 && step_number(row.step) == step_number(step)
+    row.prog.0 == prog.0 && seat_kind_number(row.step) == step_number(step)
 }
 
 /// How many of the rows are of the programme under the step.

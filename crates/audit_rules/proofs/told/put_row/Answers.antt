@@ -1,6 +1,6 @@
 use Rattle.std.proofs.Common.{◌∙◌, List, Option, Some, None, get_or, slice_set, ap, sym}
 use Rattle.std.specs.Option.{option_or}
-use Rattle.office_base.specs.declared.asks.Seat.{Seat}
+use Rattle.office_base.specs.declared.seat.Seat.{Seat}
 use Rattle.audit_rules.proofs.SeatsOfRows.{told_put, told_unknown}
 use Rattle.audit_rules.proofs.told.put_row.Goals as goal
 

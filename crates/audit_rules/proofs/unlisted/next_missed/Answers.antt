@@ -1,5 +1,5 @@
 use Rattle.std.proofs.Common.{◌≡◌, ◌∙◌, Some, false, arith, ap, sym}
-use Rattle.office_base.specs.declared.asks.Seat.{Seat}
+use Rattle.office_base.specs.declared.seat.Seat.{Seat}
 use Rattle.std.proofs.lemmas.Option.{same_Some}
 use Rattle.audit_rules.proofs.Missing.{missed_not, missed_one}
 use Rattle.audit_rules.proofs.unlisted.next_missed.Goals as goal

@@ -1,5 +1,5 @@
 use Rattle.std.proofs.Common.{List, [], Option, subst, sym}
-use Rattle.office_base.specs.declared.asks.Seat.{Seat}
+use Rattle.office_base.specs.declared.seat.Seat.{Seat}
 use Rattle.replays.specs.Differences.{AreFound}
 use Rattle.replays.proofs.compare.compare.Goals as goal
 

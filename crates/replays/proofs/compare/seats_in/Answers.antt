@@ -1,7 +1,7 @@
 use Rattle.std.proofs.Common.{◌≡◌, ◌∙◌, ◌+◌, List, Option, drop, length, subst, sym}
 use Rattle.std.proofs.lemmas.List.{drop_more}
 use Rattle.office_base.proofs.Lists.{whole_again}
-use Rattle.office_base.specs.declared.asks.Seat.{Seat}
+use Rattle.office_base.specs.declared.seat.Seat.{Seat}
 use Rattle.replays.specs.Differences.{AreFound}
 use Rattle.replays.proofs.compare.seats_in.Goals as goal
 

@@ -1,7 +1,7 @@
 use Rattle.std.proofs.Common.{◌∙◌, List, Option, ap, subst}
 use Rattle.office_moves.specs.Facts.{SeasonFacts}
 use Rattle.office_moves.specs.Stands.{first_allot, published_seat}
-use Rattle.office_base.specs.declared.asks.Seat.{Seat}
+use Rattle.office_base.specs.declared.seat.Seat.{Seat}
 use Rattle.replays.specs.Differences.{IsComparison, seat_along}
 use Rattle.replays.specs.declared.compare.Difference.{Difference}
 use Rattle.replays.proofs.Seats.{compared}

@@ -1,5 +1,5 @@
 use Rattle.std.proofs.Common.{◌∙◌, List, Option, ap, rules}
-use Rattle.office_base.specs.declared.asks.Seat.{Seat}
+use Rattle.office_base.specs.declared.seat.Seat.{Seat}
 use Rattle.replays.specs.Differences.{seat_along}
 use Rattle.replays.proofs.Seats.{nobody_along}
 use Rattle.replays.proofs.course.nobodys_seats.Goals as goal

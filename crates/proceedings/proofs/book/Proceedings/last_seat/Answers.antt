@@ -2,7 +2,7 @@ use Rattle.std.proofs.Common.{◌≡◌, ◌<◌, ◌-◌, List, Option, Some, N
 use Rattle.std.specs.Prelude.{option_map, slice_get}
 use Rattle.office_base.specs.declared.person.Person.{Person}
 use Rattle.rounds.specs.declared.round.Round.{Round}
-use Rattle.office_base.specs.declared.asks.Seat.{Seat}
+use Rattle.office_base.specs.declared.seat.Seat.{Seat}
 use Rattle.season_facts.specs.Season.{facts_of}
 use Rattle.office_moves.specs.State.{last_seat}
 use Rattle.proceedings.specs.Proceeding.{Proceeding}
