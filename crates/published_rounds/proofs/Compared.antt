@@ -12,6 +12,7 @@ use Rattle.office_moves.specs.Promise.{all_sought_then, sought_then}
 use Rattle.office_moves.specs.State.{seat_of}
 use Rattle.history_laws.proofs.Entering.{list_there, lists_full}
 use Rattle.history_laws.proofs.Fits.{map_at}
+use Rattle.rounds.specs.Rule.{nobody}
 use Rattle.published_rounds.specs.Laws.{MoreSeatsHurtNobody, NoOtherListGivesMore, SameAreSeated}
 use Rattle.published_rounds.specs.Published.{matrix_then, wanted_then}
 use Rattle.published_rounds.proofs.Places.{AreOrderly, course_of, in_round, made_then, may_enter, place_among}
@@ -20,7 +21,7 @@ pub same_are_seated : AreOrderly → theory.FairRoundsSeatAlike → (facts : Sea
 same_are_seated orderly alike facts entries state window round others published fair =
     let course = course_of orderly facts entries state window round published in
     let made = made_then facts state window round course published.there in
-    alike facts.version (matrix_then facts state window) facts.people (lists_in_order facts) (all_sought_then facts state window) round.seats others (course.seats (suc window))
+    alike facts.version nobody (matrix_then facts state window) facts.people (lists_in_order facts) (all_sought_then facts state window) round.seats others (course.seats (suc window))
     (may_enter facts state window published.sound course) made.best.fair fair
 
 pub no_other_list_gives_more : AreOrderly → theory.TruthIsBest → (facts : SeasonFacts) → NoOtherListGivesMore facts
@@ -29,7 +30,7 @@ no_other_list_gives_more orderly truth facts entries state window round i person
     let made = made_then facts state window round course published.there in
     let mine = in_round facts state window i round person published.sound course published.there at in
     let result : rank_of mine.s.list mine.seat ≤ rank_of mine.s.list other =
-    truth facts.version (matrix_then facts state window) facts.people (lists_in_order facts) told (all_sought_then facts state window) sought round.seats others i mine.s mine.seat other
+    truth facts.version nobody (matrix_then facts state window) facts.people (lists_in_order facts) told (all_sought_then facts state window) sought round.seats others i mine.s mine.seat other
     (course.seats (suc window)) (may_enter facts state window published.sound course) enter otherwise made.best fair mine.there mine.has has in
     let by_list = subst (λ l. rank_of l mine.seat ≤ rank_of l other) mine.list_is result in
     let list = wanted_then facts state window person.id.0 in
@@ -54,8 +55,8 @@ more_seats_hurt_nobody orderly more_seats facts entries others state other windo
     let sought' = map_at (λ (q : Person). sought_then facts other window q.id.0) facts.people i.0 person i.1 ∙ ap Some same in
     let table = matrix_then facts state window in
     let result : rank_of (seek_leaves table seek list.0) his.seat ≤ rank_of (seek_leaves table seek list.0) mine.seat =
-    more_seats facts.version table (matrix_then facts other window) facts.people (lists_in_order facts) (all_sought_then facts state window) (all_sought_then facts other window)
-    round.seats later.seats i.0 list.0 seek mine.seat his.seat (course.seats (suc window)) (course'.seats (suc window)) raised (may_enter facts state window sound course) leave list.1 sought sought'
+    more_seats facts.version nobody nobody table (matrix_then facts other window) facts.people (lists_in_order facts) (all_sought_then facts state window) (all_sought_then facts other window)
+    round.seats later.seats i.0 list.0 seek mine.seat his.seat (λ p person sure. sure) (course.seats (suc window)) (course'.seats (suc window)) raised (may_enter facts state window sound course) leave list.1 sought sought'
     made.best.fair made'.best mine.has his.has in
     let wanted : seek_leaves table seek list.0 ≡ wanted_then facts state window person.id.0 =
     leaves_same facts.matrix table seek list.0 (course.programmes (suc window)) ∙ ap (λ l. seek_leaves facts.matrix seek l) (sym own) in

@@ -4,7 +4,7 @@ use Rattle.std.specs.Prelude.{slice_get, option_map}
 use Rattle.std.specs.Option.{unwrap_or}
 use Rattle.std.proofs.lemmas.Option.{slice_get_within}
 use Rattle.office_base.specs.Person.{IsBetter}
-use Rattle.office_base.specs.declared.asks.Seat.{Seat}
+use Rattle.office_base.specs.declared.seat.Seat.{Seat}
 use Rattle.office_base.specs.declared.person.ListId.{ListId}
 use Rattle.office_base.specs.declared.person.Person.{Person}
 use Rattle.office_base.specs.declared.person.ProgId.{ProgId}
@@ -85,10 +85,10 @@ module _ (facts : SeasonFacts) (state : State) (window : ℕ) (round : Round) (s
   }
 
 pub nobody_is_envied : AreOrderly → ((facts : SeasonFacts) → PublishedRoundsAreJustified facts) → (facts : SeasonFacts) → NobodyIsEnvied facts
-nobody_is_envied orderly justified facts entries state window round better worse seat published here here' has wanted ahead may holds =
+nobody_is_envied orderly justified facts entries state window round better worse seat step published here here' has under wanted ahead may holds =
     let lists = sym (same_list facts state window round published.sound (course_of orderly facts entries state window round published) published.there seat.prog.0) in
-    (justified facts entries state window round published).nobody_is_envied better worse seat here here' has wanted
-    (subst (λ (l : ListId). IsBetter l better worse) lists ahead) (subst (λ (l : ListId). MayStandFor l seat.step better) lists may) holds
+    (justified facts entries state window round published).nobody_is_envied better worse seat step here here' has under wanted
+    (subst (λ (l : ListId). IsBetter l better worse) lists ahead) (subst (λ (l : ListId). MayStandFor l step better) lists may) holds
 
 pub seats_are_within : AreOrderly → SeatsAreWithinWhereFair → (facts : SeasonFacts) → SeatsAreWithin facts
 seats_are_within orderly within facts entries state window round prog published below =

@@ -1,10 +1,11 @@
 -- Down the programmes, to the first one of which a person is within a line.
 use Rattle.std.proofs.Common.{◌≡◌, ◌+◌, ◌≤◌, ◌<◌, ◌==◌, inl, inr, ℕ, List, [], ◌∷◌, Option, Some, None, false, length, arith, refl, sym, subst, eq-eqb}
 use Rattle.std.proofs.lemmas.Bool.{cases_Bool, cond-false, cond-true, eqb-true}
-use Rattle.office_base.specs.declared.asks.Seat.{Seat}
+use Rattle.office_base.specs.declared.seat.Seat.{Seat}
 use Rattle.office_base.specs.declared.person.ListId.{ListId}
 use Rattle.office_base.specs.declared.person.Person.{Person}
 use Rattle.office_base.specs.declared.person.ProgId.{ProgId}
+use Rattle.office_base.specs.declared.seat.SeatKind.TheVariants.{Under}
 use Rattle.office_base.specs.declared.step.StepKind.{StepKind}
 use Rattle.allocations.specs.Market.{place_of, rank_of}
 use Rattle.list_cutoffs.specs.declared.cutoffs.StepCutoff.{StepCutoff}
@@ -27,7 +28,7 @@ module _ (lists : ℕ → ListId) (cutoffs : ℕ → List StepCutoff) (person : 
 
   -- and that of the seat has
   abbrev IsInside : List ProgId → Option Seat → Type 0
-  IsInside progs seat = (own : Seat) → seat ≡ Some own → (place_of progs own.prog.0 < length progs) × IsWithinFirst (lists own.prog.0) person own.step (cutoffs own.prog.0)
+  IsInside progs seat = (own : Seat) → seat ≡ Some own → (place_of progs own.prog.0 < length progs) × ((step : StepKind) × (own.step ≡ Under step) × IsWithinFirst (lists own.prog.0) person step (cutoffs own.prog.0))
 
   first_place : (first : ProgId) (progs : List ProgId) (prog : ℕ) → first.0 ≡ prog → place_of (first ∷ progs) prog ≡ 0
   first_place first progs prog same = cond-true (first.0 == prog) 0 (place_of progs prog + 1) (eq-eqb first.0 prog same)
@@ -52,7 +53,8 @@ module _ (lists : ℕ → ListId) (cutoffs : ℕ → List StepCutoff) (person : 
   first_along (prog ∷ progs) (Some own) outside inside = elim (cases_Bool (prog.0 == own.prog.0)) [
     | inl same ↦
         let number : prog.0 ≡ own.prog.0 = eqb-true _ _ same in
-        inl (own, refl, the_prog own.prog prog (sym number), subst (λ (n : ℕ). IsWithinFirst (lists n) person own.step (cutoffs n)) (sym number) (inside own refl).1)
+        let its = (inside own refl).1 in
+        inl (own, its.0, refl, the_prog own.prog prog (sym number), its.1, subst (λ (n : ℕ). IsWithinFirst (lists n) person its.0 (cutoffs n)) (sym number) its.2)
     | inr other ↦
         let next = later_place prog progs own.prog.0 other in
         inr (
@@ -60,7 +62,7 @@ module _ (lists : ℕ → ListId) (cutoffs : ℕ → List StepCutoff) (person : 
           first_along progs (Some own)
               (λ one less later. outside one (let most = most_place prog progs one in omega (arith, most, less)) (let most = most_place prog progs one in omega (arith, most, later, next)))
               (λ its has. let same : own ≡ its = cc in
-              subst (λ (o : Seat). (place_of progs o.prog.0 < length progs) × IsWithinFirst (lists o.prog.0) person o.step (cutoffs o.prog.0)) same
+              subst (λ (o : Seat). (place_of progs o.prog.0 < length progs) × ((step : StepKind) × (o.step ≡ Under step) × IsWithinFirst (lists o.prog.0) person step (cutoffs o.prog.0))) same
               (omega (arith, (inside own refl).0, next), (inside own refl).1)),
         )
   ]

@@ -1,7 +1,7 @@
 -- The best allocation by the fronts of some lists is the best by the whole lists, where by these nobody does worse than the front ends.
 use Rattle.std.proofs.Common.{◌≡◌, ◌<◌, ◌≤◌, ◌⊎◌, inl, inr, ℕ, suc, true, List, Option, Some, None, length, min, take, arith, refl, sym, ap, ◌∙◌, subst, length-take}
 use Rattle.std.specs.Prelude.{slice_get}
-use Rattle.office_base.specs.declared.asks.Seat.{Seat}
+use Rattle.office_base.specs.declared.seat.Seat.{Seat}
 use Rattle.office_base.specs.declared.person.Person.{Person}
 use Rattle.office_base.specs.declared.person.ProgId.{ProgId}
 use Rattle.allocations.specs.Fair.{IsBest, IsFair, IsMarket, IsOwn}

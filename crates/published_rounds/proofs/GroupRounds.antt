@@ -1,14 +1,14 @@
 -- No group gains in a round, and in a published one.
 use Rattle.std.proofs.Common.{◌≡◌, ◌<◌, ℕ, suc, Bool, List, Option, Some, length, sym, ap, ◌∙◌, subst}
 use Rattle.std.specs.Prelude.{slice_get}
-use Rattle.office_base.specs.declared.asks.Seat.{Seat}
+use Rattle.office_base.specs.declared.seat.Seat.{Seat}
 use Rattle.office_base.specs.declared.person.Person.{Person}
 use Rattle.office_base.specs.declared.person.ProgId.{ProgId}
 use Rattle.allocations.specs.Market.{Seeker, rank_of}
 use Rattle.seat_matrix.specs.Matrix.{SeatTable}
 use Rattle.seeks.specs.Seek.{seek_leaves}
 use Rattle.seeks.specs.declared.seek.Seek.{Seek}
-use Rattle.rounds.specs.Rule.{MayApplyIn, ProgrammesAdmitNoFewer, ProgrammesChooseWell, rule_of, seekers_of}
+use Rattle.rounds.specs.Rule.{MayApplyIn, ProgrammesAdmitNoFewer, ProgrammesChooseWell, nobody, rule_of, seekers_of}
 use Rattle.rounds.specs.declared.round.Round.{Round}
 use Rattle.rounds.proofs.Entrants.{entered, length_seekers, market}
 use Rattle.office_moves.specs.Facts.{IsSound, SeasonFacts, lists_in_order}
@@ -25,7 +25,7 @@ use Rattle.published_rounds.specs.GroupLaws.{AllWouldGain, AreOtherwiseTogether,
 use Rattle.published_rounds.proofs.Together.{no_group_gains}
 
 pub no_group_gains_in_a_round : ProgrammesChooseWell → ProgrammesAdmitNoFewer → NoGroupGainsInARound
-no_group_gains_in_a_round well no_fewer version table ok = no_group_gains (rule_of version table) (MayApplyIn table) (well version table ok) (no_fewer version table ok)
+no_group_gains_in_a_round well no_fewer version table ok = no_group_gains (rule_of version nobody table) (MayApplyIn table) (well version nobody table ok) (no_fewer version nobody table ok)
 
 -- the seekers, when a group submits other lists and other seeks
 tell_together : (table : SeatTable) (people : List Person) (lists told : List (List ProgId)) (seeks sought : List Seek) (group : ℕ → Bool) → length lists ≡ length people

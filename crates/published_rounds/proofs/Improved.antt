@@ -4,10 +4,10 @@ use Rattle.std.specs.Prelude.{slice_get, slice_set}
 use Rattle.std.proofs.Math.ListN.{length-set}
 use Rattle.std.proofs.lemmas.Bool.{cases_eq, eq-eqb, false_from_ne_true}
 use Rattle.office_base.specs.Lists.{IsAmong, IsSublist}
-use Rattle.office_base.specs.declared.asks.Seat.{Seat}
+use Rattle.office_base.specs.declared.seat.Seat.{Seat}
 use Rattle.office_base.specs.declared.person.Person.{Person}
 use Rattle.office_base.specs.declared.person.ProgId.{ProgId}
-use Rattle.office_base.specs.declared.step.StepKind.{StepKind}
+use Rattle.office_base.specs.declared.seat.SeatKind.{SeatKind}
 use Rattle.office_base.proofs.Lists.{get_set_other}
 use Rattle.allocations.specs.Compared.{TellsAnother}
 use Rattle.allocations.specs.Fair.{IsBest, IsFair, IsMarket, IsOwn}
@@ -229,14 +229,14 @@ module _ (rule : Rule) (MayApply : ℕ → List Person → Type 0) (well : Choos
     }
 
     -- no programme admits the one before
-    refused : (q : ℕ) (kind : StepKind) → q < count → rule q (applicants q alone none_seats) s.person kind → ⊥
+    refused : (q : ℕ) (kind : SeatKind) → q < count → rule q (applicants q alone none_seats) s.person kind → ⊥
     refused q kind below admits =
         let stands = well.among q (applicants q alone none_seats) s.person kind (may q below) admits in
         let taken = improves q (applicants q alone none_seats) (applicants q alone' none_seats) below (may q below) (may' q below) (both q stands) (kind, admits) in
         let got = (fair'.agrees q i (with_list t only) taken.0 below here').0 taken.1 in
         cc
 
-    outside : (q : ℕ) → q < count → (y : Person) → IsAmong y (applicants q alone none_seats) → (IsAmong y (applicants q gone none_seats) → ⊥) → (kind : StepKind) → rule q (applicants q alone none_seats) y kind → ⊥
+    outside : (q : ℕ) → q < count → (y : Person) → IsAmong y (applicants q alone none_seats) → (IsAmong y (applicants q gone none_seats) → ⊥) → (kind : SeatKind) → rule q (applicants q alone none_seats) y kind → ⊥
     outside q below y inside apart kind admits =
         let found = of_those (test q) alone none_seats y inside in
         elim (cases_eq found.place i) [

@@ -19,7 +19,7 @@ use Rattle.programme_lists.specs.Programme.{Admissions}
 use Rattle.open_then_category.specs.Laws.{OneProgrammeChoice}
 use Rattle.programme_cutoffs.specs.Cutoffs.{MeetsCutoff}
 use Rattle.programme_cutoffs.specs.Laws.{LinesTellCutoffs, WhoMeetsStillMeets}
-use Rattle.rounds.specs.Rule.{MayApplyIn, ProgrammesChooseWell, ProgrammesGrow, rule_of}
+use Rattle.rounds.specs.Rule.{MayApplyIn, ProgrammesChooseWell, ProgrammesGrow, nobody, rule_of}
 use Rattle.rounds.specs.declared.round.Round.{Round}
 use Rattle.office_moves.specs.Facts.{IsSound, SeasonFacts}
 use Rattle.office_moves.specs.State.{State}
@@ -51,8 +51,8 @@ module _ (orderly : AreOrderly) (well : ProgrammesChooseWell) (grow : Programmes
   may : (window : ℕ) (round : Round) → slice_get state.rounds window ≡ Some round → prog < length (table window).programmes → MayApplyIn (table window) prog (people window round)
   may window round is below =
       let fair = (made_then facts state window round course is).best.fair in
-      applicants_may (rule_of facts.version (table window)) (MayApplyIn (table window)) (length (table window).programmes) prog (market_then facts state window) round.seats
-      (fair_over facts state window round sound course is).market (well facts.version (table window) (course.seats (suc window))) below fair.allocation.full
+      applicants_may (rule_of facts.version nobody (table window)) (MayApplyIn (table window)) (length (table window).programmes) prog (market_then facts state window) round.seats
+      (fair_over facts state window round sound course is).market (well facts.version nobody (table window) (course.seats (suc window))) below fair.allocation.full
 
   same_programmes : (window : ℕ) → length (table (suc window)).programmes ≡ length (table window).programmes
   same_programmes window = ap length (course.raised (suc window)).programmes

@@ -5,10 +5,10 @@ use Rattle.std.specs.Option.{unwrap_or}
 use Rattle.std.proofs.lemmas.Bool.{cases_lt}
 use Rattle.std.proofs.lemmas.List.{take_all}
 use Rattle.office_base.specs.Lists.{IsSublist}
-use Rattle.office_base.specs.declared.asks.Seat.{Seat}
+use Rattle.office_base.specs.declared.seat.Seat.{Seat}
 use Rattle.office_base.specs.declared.person.Person.{Person}
 use Rattle.office_base.specs.declared.person.ProgId.{ProgId}
-use Rattle.office_base.specs.declared.step.StepKind.{StepKind}
+use Rattle.office_base.specs.declared.seat.SeatKind.{SeatKind}
 use Rattle.allocations.specs.Fair.{IsBest, IsFair, IsMarket, IsNextMarket, IsOwn}
 use Rattle.allocations.specs.Market.{Seeker, applicants, applies, place_of, rank_of, seat_at}
 use Rattle.allocations.specs.Rule.{Admits, ChoosesWell, Grows, Rule}
@@ -129,7 +129,7 @@ pub rank_short : (list : List ProgId) (seat : Option Seat) → rank_of list seat
 rank_short list seat = omega (arith, rank_front (length list) list seat, ap (λ l. rank_of l seat) (take_all (length list) list (omega arith)))
 
 -- In fair seats of the next round, by a rule that admits whom the first does, a seeker who had a seat and still wants its programme has a seat.
-still_seated : (rule more : Rule) (MayApply : ℕ → List Person → Type 0) (count p i : ℕ) (seekers next : List Seeker) (seats others : List (Option Seat)) (s t : Seeker) (kind : StepKind)
+still_seated : (rule more : Rule) (MayApply : ℕ → List Person → Type 0) (count p i : ℕ) (seekers next : List Seeker) (seats others : List (Option Seat)) (s t : Seeker) (kind : SeatKind)
     → IsMarket MayApply count seekers → ChoosesWell more MayApply → Grows rule more MayApply → IsFair rule count seekers seats → IsFair more count next others
     → IsNextMarket seekers seats next → p < count → slice_get seekers i ≡ Some s → slice_get next i ≡ Some t → slice_get seats i ≡ Some (Some (seat_at p kind))
     → place_of t.list p < length t.list → slice_get others i ≡ Some None → ⊥

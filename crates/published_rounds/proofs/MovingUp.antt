@@ -5,7 +5,7 @@ use Rattle.std.proofs.lemmas.Bool.{cases_eq, cases_lt}
 use Rattle.std.proofs.lemmas.List.{length-map}
 use Rattle.std.proofs.lemmas.Option.{slice_get_past}
 use Rattle.office_base.specs.Person.{IsAhead, IsBetter}
-use Rattle.office_base.specs.declared.asks.Seat.{Seat}
+use Rattle.office_base.specs.declared.seat.Seat.{Seat}
 use Rattle.office_base.specs.declared.person.ListId.{ListId}
 use Rattle.office_base.specs.declared.person.Person.{Person}
 use Rattle.office_base.specs.declared.person.ProgId.{ProgId}
@@ -17,7 +17,7 @@ use Rattle.open_then_category.specs.Laws.{OneProgrammeChoice, ProgrammeChoiceExi
 use Rattle.programme_laws.specs.Laws.{IsNoWorseOff}
 use Rattle.seat_matrix.specs.Matrix.{AreSeats, SeatTable, list_in}
 use Rattle.seeks.specs.declared.seek.Seek.{Seek}
-use Rattle.rounds.specs.Rule.{AreEntrants, MayApplyIn, ProgrammesChooseWell, rule_of, seekers_of}
+use Rattle.rounds.specs.Rule.{AreEntrants, MayApplyIn, ProgrammesChooseWell, nobody, rule_of, seekers_of}
 use Rattle.rounds.proofs.Entrants.{market}
 use Rattle.round_laws.proofs.OneRound.{same_places}
 use Rattle.history_laws.proofs.Fits.{map_at}
@@ -70,16 +70,16 @@ module _ (people others : List Person) (alike : AreRenumbered people others) whe
 -- Renumbered registers have the same best fair seats.
 pub renumbered_give_the_same : OnlyTheOrderCounts → (version : ℕ) (table : SeatTable) (people others : List Person) (lists : List (List ProgId)) (seeks : List Seek) (seats : List (Option Seat))
     → AreSeats table → AreEntrants table people lists → AreEntrants table others lists → AreRenumbered people others
-    → IsBest (rule_of version table) (length table.programmes) (seekers_of table people lists seeks) seats
-    ↔ IsBest (rule_of version table) (length table.programmes) (seekers_of table others lists seeks) seats
+    → IsBest (rule_of version nobody table) (length table.programmes) (seekers_of table people lists seeks) seats
+    ↔ IsBest (rule_of version nobody table) (length table.programmes) (seekers_of table others lists seeks) seats
 renumbered_give_the_same order version table people others lists seeks seats ok enter enter' alike =
     let u = with_reach people others in
     let v = with_reach others people in
     let one = order version table people (λ id. id) (with_numbers u) lists seeks seats ok (rising_numbers_keep_order u (rises people others)) enter (entrants_with u (rises people others) table people lists enter) in
     let two = order version table others (λ id. id) (with_numbers v) lists seeks seats ok (rising_numbers_keep_order v (rises others people)) enter' (entrants_with v (rises others people) table others lists enter') in
     let same = one_register people others alike in (
-      λ best. two.1 (subst (λ (l : List Person). IsBest (rule_of version table) (length table.programmes) (seekers_of table l lists seeks) seats) same (one.0 best)),
-      λ best. one.1 (subst (λ (l : List Person). IsBest (rule_of version table) (length table.programmes) (seekers_of table l lists seeks) seats) (sym same) (two.0 best)),
+      λ best. two.1 (subst (λ (l : List Person). IsBest (rule_of version nobody table) (length table.programmes) (seekers_of table l lists seeks) seats) same (one.0 best)),
+      λ best. one.1 (subst (λ (l : List Person). IsBest (rule_of version nobody table) (length table.programmes) (seekers_of table l lists seeks) seats) (sym same) (two.0 best)),
     )
 
 -- ---- one person moves up
@@ -204,15 +204,15 @@ pub record AreLaws : Type 0 where
 -- fair seats are fair with other numbers that rise with the old ones
 fair_with : AreLaws → (version : ℕ) (table : SeatTable) (people : List Person) (numbers : ℕ → ℕ → ℕ) (lists : List (List ProgId)) (seeks : List Seek) (seats : List (Option Seat)) → AreSeats table
     → ((list m n : ℕ) → m < n → numbers list m < numbers list n) → AreEntrants table people lists
-    → IsFair (rule_of version table) (length table.programmes) (seekers_of table people lists seeks) seats
-    → IsFair (rule_of version table) (length table.programmes) (seekers_of table (map (with_numbers numbers) people) lists seeks) seats
+    → IsFair (rule_of version nobody table) (length table.programmes) (seekers_of table people lists seeks) seats
+    → IsFair (rule_of version nobody table) (length table.programmes) (seekers_of table (map (with_numbers numbers) people) lists seeks) seats
 fair_with laws version table people numbers lists seeks seats ok rising enter fair =
     let f = with_numbers numbers in
     let same = seekers_map f table people lists seeks in
     let here = market table people lists seeks ok enter in
     let here' = subst (λ (l : List Seeker). IsMarket (MayApplyIn table) (length table.programmes) l) same
     (market table (map f people) lists seeks ok (entrants_with numbers rising table people lists enter)) in
-    subst (λ (l : List Seeker). IsFair (rule_of version table) (length table.programmes) l seats) (sym same)
+    subst (λ (l : List Seeker). IsFair (rule_of version nobody table) (length table.programmes) l seats) (sym same)
     (fair_map laws.exists laws.one laws.well version table ok (λ id. id) f (rising_numbers_keep_order numbers rising) (seekers_of table people lists seeks) here here' seats fair)
 
 pub moving_up_never_hurts : AreLaws → MovingUpNeverHurts

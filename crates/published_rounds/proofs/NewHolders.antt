@@ -12,7 +12,7 @@ use Rattle.programme_lists.specs.Chosen.{AreApplicants}
 use Rattle.programme_lists.specs.Programme.{IsProgrammeChoice}
 use Rattle.seat_matrix.specs.Matrix.{list_in, seats_in, steps_in}
 use Rattle.seat_matrix.specs.Seats.{AreProgrammeSeats, HaveMoreSeats}
-use Rattle.rounds.specs.Rule.{MayApplyIn, ProgrammesChooseWell, rule_of}
+use Rattle.rounds.specs.Rule.{MayApplyIn, ProgrammesChooseWell, nobody, rule_of}
 use Rattle.published_rounds.specs.FairLaws.{FewNewHolders}
 use Rattle.published_rounds.proofs.Market.{in_all}
 use Rattle.published_rounds.proofs.MoreSeats.{at_most_raised}
@@ -22,8 +22,8 @@ pub few_new_holders : ProgrammesChooseWell → ProgrammeChoiceExists → OneProg
 few_new_holders well exists one no_fewer ranks more_seats refused step_exists sized version table more seekers next seats others p over over' narrows below below' have =
     let people = applicants p seekers seats in
     let later = applicants p next others in
-    let may = applicants_may (rule_of version table) (MayApplyIn table) (length table.programmes) p seekers seats over.market (well version table over.are_seats) below over.fair.allocation.full in
-    let later_may = applicants_may (rule_of version more) (MayApplyIn more) (length more.programmes) p next others over'.market (well version more over'.are_seats) below' over'.fair.allocation.full in
+    let may = applicants_may (rule_of version nobody table) (MayApplyIn table) (length table.programmes) p seekers seats over.market (well version nobody table over.are_seats) below over.fair.allocation.full in
+    let later_may = applicants_may (rule_of version nobody more) (MayApplyIn more) (length more.programmes) p next others over'.market (well version nobody more over'.are_seats) below' over'.fair.allocation.full in
     let wide : AreApplicants (list_in more p) people = subst (λ (l : ListId). AreApplicants l people) (sym have.list) may in
     let ok = over.are_seats.sound p below in
     let ok' = over'.are_seats.sound p below' in

@@ -5,9 +5,10 @@ use Rattle.std.proofs.Math.ListN.{length-set}
 use Rattle.office_base.proofs.Lists.{at_among, get_set_other, there_is}
 use Rattle.placements.proofs.Ranks.{among_sublist, any_weaker}
 use Rattle.allocations.proofs.Course.{get_set_same}
-use Rattle.std.proofs.lemmas.Bool.{cases_eq}
+use Rattle.std.proofs.lemmas.Bool.{cases_eq, false≢true}
 use Rattle.office_base.specs.Lists.{IsAmong, IsSublist}
-use Rattle.office_base.specs.declared.asks.Seat.{Seat}
+use Rattle.office_base.specs.declared.seat.Seat.{Seat}
+use Rattle.office_base.specs.declared.seat.SeatKind.TheVariants.{Kept, Under}
 use Rattle.office_base.specs.declared.person.Person.{Person}
 use Rattle.office_base.specs.declared.person.ProgId.{ProgId}
 use Rattle.allocations.specs.Compared.{TellsAnother}
@@ -26,7 +27,7 @@ use Rattle.programme_cutoffs.specs.Cutoffs.{MeetsCutoff}
 use Rattle.programme_cutoffs.specs.Reading.{IsWithinLine, IsWithinLines}
 use Rattle.programme_lists.specs.Chosen.{AreApplicants}
 use Rattle.list_cutoffs.specs.declared.cutoffs.StepCutoff.{StepCutoff}
-use Rattle.rounds.specs.Rule.{MayApplyIn, ProgrammesAdmitNoFewer, ProgrammesChooseWell, rule_of, seekers_of}
+use Rattle.rounds.specs.Rule.{MayApplyIn, ProgrammesAdmitNoFewer, ProgrammesChooseWell, nobody, rule_of, seekers_of}
 use Rattle.rounds.specs.declared.round.Round.{Round}
 use Rattle.rounds.proofs.Entrants.{market}
 use Rattle.round_laws.proofs.Told.{tells_otherwise}
@@ -179,7 +180,7 @@ module _ (well : ProgrammesChooseWell) (no_fewer : ProgrammesAdmitNoFewer) (deci
   table = matrix_then facts state window
 
   abbrev rule : Rule
-  rule = rule_of facts.version table
+  rule = rule_of facts.version nobody table
 
   abbrev seekers : List Seeker
   seekers = market_then facts state window
@@ -211,10 +212,10 @@ module _ (well : ProgrammesChooseWell) (no_fewer : ProgrammesAdmitNoFewer) (deci
   tells = tells_otherwise table facts.people (lists_in_order facts) otherwise.told (all_sought_then facts state window) otherwise.sought i otherwise.otherwise
 
   good : ChoosesWell rule (MayApplyIn table)
-  good = well facts.version table (course.seats (suc window))
+  good = well facts.version nobody table (course.seats (suc window))
 
   fewer : AdmitsNoFewer rule (MayApplyIn table)
-  fewer = no_fewer facts.version table (course.seats (suc window))
+  fewer = no_fewer facts.version nobody table (course.seats (suc window))
 
   -- the seekers when the newcomer wants the programme alone, and who applies to it then
   abbrev alone_here : List Seeker
@@ -254,7 +255,8 @@ module _ (well : ProgrammesChooseWell) (no_fewer : ProgrammesAdmitNoFewer) (deci
 
   -- Next to those who applied the programme refuses the newcomer, who is within none of its lines.
   refused : Refuses rule seat.prog.0 all b.s.person
-  refused kind admits =
+  refused Kept keeps = absurd (false≢true keeps.guaranteed_there)
+  refused (Under kind) admits =
       let shown = shown_by well facts state window round sound course is seat.prog.0 inside.0 inside.1 in
       let joined : IsJoinedBy facts.version (seats_in table seat.prog.0) some all shown.admissions admits.0 b.s.person = record {
         both = record {
@@ -265,7 +267,7 @@ module _ (well : ProgrammesChooseWell) (no_fewer : ProgrammesAdmitNoFewer) (deci
           choice = shown.choice;
           more_choice = admits.1;
         };
-        there = good.among seat.prog.0 all b.s.person kind may_all admits;
+        there = good.among seat.prog.0 all b.s.person (Under kind) may_all admits;
         nobody_else = λ other one. elim (the_either other one) [ inl before ↦ inl before | inr mine ↦ inr mine.1 ];
       } in
       let met = (decide facts.version (seats_in table seat.prog.0) some all shown.admissions admits.0 b.s.person joined).0 (kind, admits.2) in

@@ -7,10 +7,11 @@ use Rattle.std.proofs.lemmas.Option.{slice_get_within}
 use Rattle.office_base.specs.Lists.{IsAmong}
 use Rattle.office_base.specs.Merit.{in_merit}
 use Rattle.office_base.specs.Person.{IsTraitSet}
-use Rattle.office_base.specs.declared.asks.Seat.{Seat}
+use Rattle.office_base.specs.declared.seat.Seat.{Seat}
 use Rattle.office_base.specs.declared.person.ListId.{ListId}
 use Rattle.office_base.specs.declared.person.Person.{Person}
 use Rattle.office_base.specs.declared.person.ProgId.{ProgId}
+use Rattle.office_base.specs.declared.seat.SeatKind.TheVariants.{Under}
 use Rattle.office_base.specs.declared.step.StepKind.{StepKind}
 use Rattle.office_base.proofs.Lists.{all_among, there_is}
 use Rattle.placements.proofs.Ranks.{among_itself}
@@ -29,7 +30,8 @@ use Rattle.list_cutoffs.specs.declared.cutoffs.StepCutoff.{StepCutoff}
 use Rattle.programme_cutoffs.specs.Cutoffs.{MeetsCutoff}
 use Rattle.programme_cutoffs.specs.Laws.{CutoffsDecideAdmissions, CutoffsDecideSteps, IsJoinedBy, LinesTellCutoffs}
 use Rattle.programme_cutoffs.specs.Reading.{IsWithinFirst, IsWithinLines, IsWithinStep}
-use Rattle.rounds.specs.Rule.{MayApplyIn, ProgrammesChooseWell, rule_of}
+use Rattle.rounds.specs.Rule.{MayApplyIn, ProgrammesChooseWell, nobody, rule_of}
+use Rattle.rounds.proofs.Nobody.{is_under}
 use Rattle.rounds.specs.declared.round.Round.{Round}
 use Rattle.office_moves.specs.Facts.{IsSound, SeasonFacts}
 use Rattle.office_moves.specs.State.{State, seat_of}
@@ -68,7 +70,7 @@ module _ (well : ProgrammesChooseWell) (facts : SeasonFacts) (state : State) (wi
       record {
         admissions = shown.0;
         below = below;
-        may = applicants_may (rule_of facts.version table) (MayApplyIn table) (length table.programmes) prog seekers round.seats (fair_over facts state window round sound course is).market (well facts.version table (course.seats (suc window)))
+        may = applicants_may (rule_of facts.version nobody table) (MayApplyIn table) (length table.programmes) prog seekers round.seats (fair_over facts state window round sound course is).market (well facts.version nobody table (course.seats (suc window)))
             below made.best.fair.allocation.full;
         choice = shown.1;
         shows = shown.2;
@@ -98,8 +100,8 @@ module _ (well : ProgrammesChooseWell) (facts : SeasonFacts) (state : State) (wi
       let fair = (made_then facts state window round course is).best.fair in
       let under : AdmitsUnder facts.version (seats_in table prog) (applicants prog seekers round.seats) b.s.person kind =
       (shown.admissions, shown.choice, subst (λ p. IsAmong p (admitted_by shown.admissions kind)) (sym b.person_is) taken) in
-      let got = (fair.agrees prog i b.s kind shown.below b.there).0 under in
-      let mine : b.seat ≡ Some (seat_at prog kind) = (let e = b.has in cc) in
+      let got = (fair.agrees prog i b.s (Under kind) shown.below b.there).0 under in
+      let mine : b.seat ≡ Some (seat_at prog (Under kind)) = (let e = b.has in cc) in
       let rank : rank_of b.s.list b.seat ≡ place_of b.s.list prog = ap (λ z. rank_of b.s.list z) mine in
       omega (arith, later, rank)
 
@@ -145,7 +147,7 @@ module _ (well : ProgrammesChooseWell) (facts : SeasonFacts) (state : State) (wi
   -- the programme of a seat has a line of its step that the holder is within, and no such line of a step before
   pub holder_within : OneProgrammeChoice → CutoffsDecideSteps → LinesTellCutoffs → (i : ℕ) (person : Person) (own : Seat) (cutoffs : ℕ → List StepCutoff) → IsTraitSet person.traits
       → AreCutoffsThen facts round cutoffs → (b : InRound facts state window i round person) → b.seat ≡ Some own
-      → (place_of b.s.list own.prog.0 < length b.s.list) × IsWithinFirst (list_in facts.matrix own.prog.0) person own.step (cutoffs own.prog.0)
+      → (place_of b.s.list own.prog.0 < length b.s.list) × ((step : StepKind) × (own.step ≡ Under step) × IsWithinFirst (list_in facts.matrix own.prog.0) person step (cutoffs own.prog.0))
   holder_within one decide tell i person own cutoffs small are b held =
       let made = made_then facts state window round course is in
       let fair = made.best.fair in
@@ -156,19 +158,19 @@ module _ (well : ProgrammesChooseWell) (facts : SeasonFacts) (state : State) (wi
       let shown = shown_by prog programme.0 programme.1 in
       let people = applicants prog seekers round.seats in
       let seat_is : own ≡ seat_at prog own.step = seat_same own (seat_at prog own.step) refl refl in
-      let admitted : AdmitsUnder facts.version (seats_in table prog) people b.s.person own.step =
-      (fair.agrees prog i b.s own.step shown.below b.there).1 (has ∙ ap (λ z. Some (Some z)) seat_is) in
+      let under = is_under facts.version table prog people b.s.person own.step ((fair.agrees prog i b.s own.step shown.below b.there).1 (has ∙ ap (λ z. Some (Some z)) seat_is)) in
+      let admitted : AdmitsUnder facts.version (seats_in table prog) people b.s.person under.step = under.chosen in
       let equal = one facts.version (seats_in table prog) people admitted.0 shown.admissions ((course.seats (suc window)).sound prog shown.below) shown.may admitted.1 shown.choice in
-      let taken : IsAmong person (admitted_by shown.admissions own.step) =
-      subst (λ (admissions : Admissions). IsAmong person (admitted_by admissions own.step)) equal
-      (subst (λ p. IsAmong p (admitted_by admitted.0 own.step)) b.person_is admitted.2) in
+      let taken : IsAmong person (admitted_by shown.admissions under.step) =
+      subst (λ (admissions : Admissions). IsAmong person (admitted_by admissions under.step)) equal
+      (subst (λ p. IsAmong p (admitted_by admitted.0 under.step)) b.person_is admitted.2) in
       let rank : rank_of b.s.list b.seat ≡ place_of b.s.list prog = ap (rank_of b.s.list) held in
       let applied : IsAmong person people = subst (λ p. IsAmong p people) b.person_is
       (those_has (λ s o. applies prog s.list o) seekers round.seats i b.s b.seat b.there b.has (applies_true prog b.s.list b.seat less (omega (arith, rank)))) in
-      let first = (decide facts.version (seats_in table prog) people people shown.admissions shown.admissions person own.step (again prog programme.0 shown person applied)).0 taken in
+      let first = (decide facts.version (seats_in table prog) people people shown.admissions shown.admissions person under.step (again prog programme.0 shown person applied)).0 taken in
       let lines = λ (kind : StepKind). told tell prog programme.0 shown (cutoffs prog) person kind small (are prog programme.0 programme.1) in (
         less,
-        ((lines own.step).0 first.0, (λ before earlier within. first.1 before earlier ((lines before).1 within))),
+        (under.step, under.is, ((lines under.step).0 first.0, (λ before earlier within. first.1 before earlier ((lines before).1 within)))),
       )
 
 -- ---- the laws

@@ -1,9 +1,11 @@
 -- With the de-reserved step a programme admits whom it admits without it, so the step hurts nobody.
 use Rattle.std.proofs.Common.{◌≡◌, ◌≤◌, ℕ, suc, false, List, length, take, refl, sym, subst}
+use Rattle.std.proofs.lemmas.Bool.{false≢true}
 use Rattle.office_base.specs.Lists.{IsAmong}
 use Rattle.office_base.specs.Merit.{in_merit}
 use Rattle.office_base.specs.StepChoice.{IsStepChoice}
 use Rattle.office_base.specs.declared.person.Person.{Person}
+use Rattle.office_base.specs.declared.seat.SeatKind.TheVariants.{Kept, Under}
 use Rattle.office_base.specs.declared.step.StepKind.{StepKind}
 use Rattle.office_base.specs.declared.step.StepKind.TheVariants.{Dereserved}
 use Rattle.allocations.specs.Market.{rank_of}
@@ -13,7 +15,7 @@ use Rattle.programme_lists.specs.Programme.{Admissions, IsProgrammeChoice, peopl
 use Rattle.seat_matrix.specs.Matrix.{SeatTable, seats_in}
 use Rattle.seat_matrix.specs.Seats.{is_dereserved}
 use Rattle.seat_matrix.specs.declared.seats.ProgrammeSeats.{ProgrammeSeats}
-use Rattle.rounds.specs.Rule.{MayApplyIn, ProgrammesChooseWell, rule_of}
+use Rattle.rounds.specs.Rule.{MayApplyIn, ProgrammesChooseWell, nobody, rule_of}
 use Rattle.rounds.proofs.Entrants.{market}
 use Rattle.office_moves.specs.Facts.{SeasonFacts, lists_in_order}
 use Rattle.office_moves.specs.Promise.{all_sought_then}
@@ -39,16 +41,16 @@ module _ (version : ℕ) (seats : ProgrammeSeats) (applicants : List Person) (ad
   still_admitted x Dereserved here = absurd (subst (λ l. IsAmong x l) choice.nobody_else here)
   still_admitted x kind here = here
 
-admits_still : (version : ℕ) (table : SeatTable) → Grows (rule_of_own_steps table) (rule_of version table) (MayApplyIn table)
-admits_still version table p people x may admits =
-    let a = admits.1 in
+admits_still : (version : ℕ) (table : SeatTable) → Grows (rule_of_own_steps table) (rule_of version nobody table) (MayApplyIn table)
+admits_still version table p people x may (Kept, keeps) = absurd (false≢true keeps.guaranteed_there)
+admits_still version table p people x may (Under kind, a) =
     let seats = seats_in table p in
     let applicants = in_merit seats.list people in
-    (admits.0, (with_last version seats applicants a.0 a.1, whole_choice version seats applicants a.0 a.1, still_admitted version seats applicants a.0 a.1 x admits.0 a.2))
+    (Under kind, (with_last version seats applicants a.0 a.1, whole_choice version seats applicants a.0 a.1, still_admitted version seats applicants a.0 a.1 x kind a.2))
 
 pub dereservation_hurts_nobody : ProgrammesChooseWell → DereservationHurtsNobody
 dereservation_hurts_nobody well version table seekers seats others i s seat other ok here fair best there has has' =
-    more_is_no_worse (rule_of_own_steps table) (rule_of version table) (MayApplyIn table) (well version table ok) (admits_still version table) (length table.programmes) i
+    more_is_no_worse (rule_of_own_steps table) (rule_of version nobody table) (MayApplyIn table) (well version nobody table ok) (admits_still version table) (length table.programmes) i
     seekers seats others s seat other here fair best there has has'
 
 pub dereservation_hurt_nobody : AreOrderly → DereservationHurtsNobody → (facts : SeasonFacts) → DereservationHurtNobody facts

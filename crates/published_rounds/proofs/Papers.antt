@@ -4,13 +4,13 @@ use Rattle.std.specs.Prelude.{slice_get}
 use Rattle.std.proofs.lemmas.Option.{slice_get_within}
 use Rattle.office_base.proofs.Lists.{there_is}
 use Rattle.office_base.specs.declared.asks.Request.{Request}
-use Rattle.office_base.specs.declared.asks.Seat.{Seat}
+use Rattle.office_base.specs.declared.seat.Seat.{Seat}
 use Rattle.office_base.specs.declared.person.Person.{Person}
 use Rattle.allocations.specs.Fair.{IsFair}
 use Rattle.allocations.specs.Market.{Seeker}
 use Rattle.seat_matrix.specs.Laws.{OneStepChanges}
 use Rattle.seat_matrix.specs.Matrix.{SeatTable}
-use Rattle.rounds.specs.Rule.{rule_of}
+use Rattle.rounds.specs.Rule.{nobody, rule_of}
 use Rattle.rounds.proofs.Entrants.{market}
 use Rattle.office_moves.specs.Facts.{IsSound, SeasonFacts, lists_in_order}
 use Rattle.office_moves.specs.Moves.{next_seeks}
@@ -53,11 +53,11 @@ module _ (facts : SeasonFacts) (papers : Papers) (state : State) (sound : IsSoun
   abbrev seats : List (Option Seat)
   seats = seats_told (rows_after papers state.now) facts.people
 
-  pub over_seekers : IsFair (rule_of facts.version table) (length facts.matrix.programmes) (seekers_at facts state) seats → AreFairOver facts.version table (seekers_at facts state) seats
+  pub over_seekers : IsFair (rule_of facts.version nobody table) (length facts.matrix.programmes) (seekers_at facts state) seats → AreFairOver facts.version table (seekers_at facts state) seats
   over_seekers fair = record {
     are_seats = order.seats;
     market = market table facts.people (lists_in_order facts) (next_seeks facts state) order.seats (entrants facts table sound order.programmes);
-    fair = subst (λ n. IsFair (rule_of facts.version table) n (seekers_at facts state) seats) (ap length (sym order.programmes)) fair;
+    fair = subst (λ n. IsFair (rule_of facts.version nobody table) n (seekers_at facts state) seats) (ap length (sym order.programmes)) fair;
   }
 
   who : (i : ℕ) (s : Seeker) (person : Person) → slice_get (seekers_at facts state) i ≡ Some s → slice_get facts.people i ≡ Some person

@@ -3,7 +3,8 @@ use Rattle.std.proofs.Common.{◌≡◌, ℕ, List, Option, Some, length, refl, 
 use Rattle.std.specs.Prelude.{slice_get}
 use Rattle.std.proofs.lemmas.List.{length-map}
 use Rattle.office_base.specs.Person.{IsBetter}
-use Rattle.office_base.specs.declared.asks.Seat.{Seat}
+use Rattle.office_base.specs.declared.seat.Seat.{Seat}
+use Rattle.office_base.specs.declared.seat.SeatKind.TheVariants.{Under}
 use Rattle.office_base.specs.declared.person.Person.{Person}
 use Rattle.office_base.specs.declared.person.ProgId.{ProgId}
 use Rattle.office_base.proofs.Lists.{at_among}
@@ -18,7 +19,7 @@ use Rattle.history_laws.proofs.Fits.{full_seekers, map_at}
 use Rattle.published_rounds.specs.Published.{market_then, matrix_then, wanted_then}
 use Rattle.published_rounds.proofs.Places.{AreOrderly, course_of, in_round, place_among}
 use Rattle.published_rounds.specs.Fair.{AreFairOver, IsDecided, IsOpenTo}
-use Rattle.published_rounds.specs.FairLaws.{ClosingPlacesDecide, NoSeatIsWasted, NobodyIsEnviedWhereFair, SeatsAreWithinWhereFair}
+use Rattle.published_rounds.specs.FairLaws.{ClosingPlacesDecide, NoSeatIsWasted, NobodyIsEnviedWhereFair, NobodyIsKeptWhereFair, SeatsAreWithinWhereFair}
 use Rattle.published_rounds.specs.People.{AreFairTo, AreJustified, FairSeatsAreJustified, IsDecidedFor, IsOpenFor, PublishedRoundsAreJustified, seats_by, seekers_by}
 use Rattle.published_rounds.proofs.FairThen.{fair_over}
 use Rattle.published_rounds.proofs.Numbered.{map_back}
@@ -26,6 +27,7 @@ use Rattle.published_rounds.proofs.Numbered.{map_back}
 -- the laws of fair seats, place by place
 pub record AreLaws : Type 0 where
   pub envied : NobodyIsEnviedWhereFair
+  pub under : NobodyIsKeptWhereFair
   pub wasted : NoSeatIsWasted
   pub within : SeatsAreWithinWhereFair
   pub decided : ClosingPlacesDecide
@@ -96,12 +98,15 @@ module _ (version : ℕ) (table : SeatTable) (people : List Person) (wanted : �
 
   pub justified : AreLaws → AreJustified version table people wanted got
   justified laws = record {
-    nobody_is_envied = λ better worse seat here here' has wants_it ahead may holds.
+    nobody_is_envied = λ better worse seat step here here' has under wants_it ahead may holds.
         let i = place_among people better here in
         let j = place_among people worse here' in
-        let seat_is : seat ≡ seat_at seat.prog.0 seat.step = seat_same seat (seat_at seat.prog.0 seat.step) refl refl in
-        laws.envied version table seekers seats seat.prog.0 i.0 j.0 seat.step (as_seeker better) (as_seeker worse) (got better.id.0) over (seeker_there i.0 better i.1) (seat_there i.0 better i.1)
+        let seat_is : seat ≡ seat_at seat.prog.0 (Under step) = seat_same seat (seat_at seat.prog.0 (Under step)) refl under in
+        laws.envied version table seekers seats seat.prog.0 i.0 j.0 step (as_seeker better) (as_seeker worse) (got better.id.0) over (seeker_there i.0 better i.1) (seat_there i.0 better i.1)
         (seeker_there j.0 worse j.1) (seat_there j.0 worse j.1 ∙ ap Some (has ∙ ap Some seat_is)) wants_it ahead may holds;
+    nobody_is_kept = λ person seat here has.
+        let i = place_among people person here in
+        laws.under version table seekers seats i.0 (as_seeker person) seat over (seeker_there i.0 person i.1) (seat_there i.0 person i.1 ∙ ap Some has);
     no_seat_is_wasted = λ p step person here left wants_it may.
         let i = place_among people person here in
         laws.wasted version table seekers seats p i.0 step (as_seeker person) (got person.id.0) over left (seeker_there i.0 person i.1) (seat_there i.0 person i.1) wants_it may;

@@ -5,7 +5,7 @@ use Rattle.std.specs.Option.{option_and_then}
 use Rattle.std.proofs.lemmas.Option.{slice_get_within}
 use Rattle.office_base.proofs.People.{at_person-get}
 use Rattle.office_base.specs.Lists.{IsAmong}
-use Rattle.office_base.specs.declared.asks.Seat.{Seat}
+use Rattle.office_base.specs.declared.seat.Seat.{Seat}
 use Rattle.office_base.specs.declared.person.Person.{Person}
 use Rattle.office_base.specs.declared.person.ProgId.{ProgId}
 use Rattle.office_base.proofs.Lists.{there_is}
@@ -13,7 +13,7 @@ use Rattle.allocations.specs.Market.{Seeker, place_of, rank_of}
 use Rattle.choice_lists.specs.Choices.{list_of}
 use Rattle.seeks.proofs.Left.{leaves_same}
 use Rattle.rounds.specs.Round.{IsRound}
-use Rattle.rounds.specs.Rule.{AreEntrants}
+use Rattle.rounds.specs.Rule.{AreEntrants, nobody}
 use Rattle.rounds.specs.declared.round.Round.{Round}
 use Rattle.office_moves.specs.Facts.{IsSound, SeasonFacts, lists_in_order}
 use Rattle.office_moves.specs.History.{Reaches}
@@ -57,9 +57,9 @@ pub record InRound (facts : SeasonFacts) (state : State) (window place : ℕ) (r
   pub seat_is : seat_of facts (Some round) person.id.0 ≡ seat
 
 pub made_then : (facts : SeasonFacts) (state : State) (window : ℕ) (round : Round) → IsCourse facts state → slice_get state.rounds window ≡ Some round
-    → IsRound facts.version (matrix_then facts state window) facts.people (lists_in_order facts) (suc window) (all_sought_then facts state window) round
+    → IsRound facts.version nobody (matrix_then facts state window) facts.people (lists_in_order facts) (suc window) (all_sought_then facts state window) round
 made_then facts state window round course is =
-    subst (λ n. IsRound facts.version (matrix_then facts state window) facts.people (lists_in_order facts) n (all_sought_then facts state window) round) (omega arith)
+    subst (λ n. IsRound facts.version nobody (matrix_then facts state window) facts.people (lists_in_order facts) n (all_sought_then facts state window) round) (omega arith)
     (course.made window round is)
 
 pub in_round : (facts : SeasonFacts) (state : State) (window place : ℕ) (round : Round) (person : Person) → IsSound facts → IsCourse facts state → slice_get state.rounds window ≡ Some round

@@ -1,7 +1,9 @@
 -- A candidate who is better off has no worse seat in a round.
 use Rattle.std.proofs.Common.{◌≡◌, ◌≤◌, ℕ, zero, suc, List, [], ◌∷◌, Option, Some, None, length, map, arith, refl, sym, ap, ◌∙◌, subst}
 use Rattle.std.specs.Prelude.{slice_get}
-use Rattle.office_base.specs.declared.asks.Seat.{Seat}
+use Rattle.std.proofs.lemmas.Bool.{false≢true}
+use Rattle.office_base.specs.declared.seat.Seat.{Seat}
+use Rattle.office_base.specs.declared.seat.SeatKind.TheVariants.{Kept, Under}
 use Rattle.office_base.specs.declared.person.Person.{Person}
 use Rattle.office_base.specs.declared.person.ProgId.{ProgId}
 use Rattle.allocations.specs.Fair.{IsBest, IsFair}
@@ -14,7 +16,7 @@ use Rattle.programme_laws.specs.Laws.{BeingBetterOffNeverHurts}
 use Rattle.seat_matrix.specs.Matrix.{AreSeats, SeatTable, seats_in}
 use Rattle.seeks.specs.Seek.{seek_leaves}
 use Rattle.seeks.specs.declared.seek.Seek.{Seek}
-use Rattle.rounds.specs.Rule.{AreEntrants, MayApplyIn, ProgrammesAdmitNoFewer, ProgrammesChooseWell, rule_of, seekers_of}
+use Rattle.rounds.specs.Rule.{AreEntrants, MayApplyIn, ProgrammesAdmitNoFewer, ProgrammesChooseWell, nobody, rule_of, seekers_of}
 use Rattle.rounds.specs.declared.round.Round.{Round}
 use Rattle.rounds.proofs.Entrants.{entered, market}
 use Rattle.office_moves.specs.Facts.{SeasonFacts, lists_in_order}
@@ -55,13 +57,14 @@ same_at table people others lists seeks j full same = absurd (omega (arith, full
 
 -- a programme that admits the person before admits the person after
 improved : AreLaws → (version : ℕ) (table : SeatTable) (i : ℕ) (before after : Person) (people others : List Person) → AreSeats table → OneIsBetterOff table i before after people others
-    → Improves (rule_of version table) (MayApplyIn table) (length table.programmes) before after
-improved laws version table i before after people others are off p some more below may may' but admits =
+    → Improves (rule_of version nobody table) (MayApplyIn table) (length table.programmes) before after
+improved laws version table i before after people others are off p some more below may may' but (Kept, keeps) = absurd (false≢true keeps.guaranteed_there)
+improved laws version table i before after people others are off p some more below may may' but (Under step, admits) =
     let seats = seats_in table p in
     let ok = are.sound p below in
     let changed = laws.exists version seats more ok may' in
-    let taken = laws.never_hurts version seats some more admits.1.0 changed.0 before after ok may may' but (off.better p) admits.1.1 changed.1 (admits.0, admits.1.2) in
-    (taken.0, (changed.0, changed.1, taken.1))
+    let taken = laws.never_hurts version seats some more admits.0 changed.0 before after ok may may' but (off.better p) admits.1 changed.1 (step, admits.2) in
+    (Under taken.0, (changed.0, changed.1, taken.1))
 
 -- the person as a seeker, before and after
 record Both (table : SeatTable) (changed : List Person) (lists : List (List ProgId)) (seeks : List Seek) (i : ℕ) (before after : Person) (s : Seeker) : Type 0 where
@@ -94,13 +97,13 @@ better_off_is_no_worse laws version table people changed lists seeks seats other
     subst (λ l. rank_of l other ≤ length l) b.list (rank_within b.t.list other (best.fair.allocation.own i b.t other b.at has'))
 better_off_is_no_worse laws version table people changed lists seeks seats others i before after s (Some x) other are enter enter' off fair best there has has' =
     let b = both_of table people changed lists seeks i before after s off there in
-    let rule = rule_of version table in
+    let rule = rule_of version nobody table in
     let count = length table.programmes in
     let improves : Improves rule (MayApplyIn table) count before after = improved laws version table i before after people changed are off in
     let mine : Improves rule (MayApplyIn table) count s.person b.t.person =
     subst (λ (q : Person). Improves rule (MayApplyIn table) count s.person q) (sym b.is) (subst (λ (p : Person). Improves rule (MayApplyIn table) count p after) (sym b.was) improves) in
     let id : b.t.person.id ≡ s.person.id = ap (λ (z : Person). z.id) b.is ∙ ((off.better 0).id ∙ ap (λ (z : Person). z.id) (sym b.was)) in
-    no_worse rule (MayApplyIn table) (laws.well version table are) (laws.no_fewer version table are) count i (seekers_of table people lists seeks) (seekers_of table changed lists seeks) s b.t
+    no_worse rule (MayApplyIn table) (laws.well version nobody table are) (laws.no_fewer version nobody table are) count i (seekers_of table people lists seeks) (seekers_of table changed lists seeks) s b.t
     (market table people lists seeks are enter) (market table changed lists seeks are enter') there b.at b.list id (as_many table people changed lists seeks off.full)
     (λ j apart. same_at table people changed lists seeks j off.full (off.rest j apart)) mine seats fair x has others other best has'
 
@@ -111,8 +114,8 @@ abbrev pub HasNoWorse : SeasonFacts → State → ℕ → List Person → ℕ �
 HasNoWorse facts state window changed i =
     (seats others : List (Option Seat)) (s : Seeker) (seat other : Option Seat) → AreSeats (matrix_then facts state window)
     → AreEntrants (matrix_then facts state window) facts.people (lists_in_order facts) → AreEntrants (matrix_then facts state window) changed (lists_in_order facts)
-    → IsFair (rule_of facts.version (matrix_then facts state window)) (length (matrix_then facts state window).programmes) (market_then facts state window) seats
-    → IsBest (rule_of facts.version (matrix_then facts state window)) (length (matrix_then facts state window).programmes)
+    → IsFair (rule_of facts.version nobody (matrix_then facts state window)) (length (matrix_then facts state window).programmes) (market_then facts state window) seats
+    → IsBest (rule_of facts.version nobody (matrix_then facts state window)) (length (matrix_then facts state window).programmes)
     (seekers_of (matrix_then facts state window) changed (lists_in_order facts) (all_sought_then facts state window)) others
     → slice_get (market_then facts state window) i ≡ Some s → slice_get seats i ≡ Some seat → slice_get others i ≡ Some other → rank_of s.list other ≤ rank_of s.list seat
 
@@ -130,13 +133,13 @@ in_two_rounds orderly facts other entries others state then window i round later
     let his = in_round other then window i later after published'.sound course' published'.there there' in
     let table = matrix_then facts state window in
     let lists : lists_in_order other ≡ lists_in_order facts = ap (λ (l : Lists). map (λ held. held.1) l) same_lists in
-    let by_version = subst (λ (v : ℕ). IsBest (rule_of v (matrix_then other then window)) (length (matrix_then other then window).programmes)
+    let by_version = subst (λ (v : ℕ). IsBest (rule_of v nobody (matrix_then other then window)) (length (matrix_then other then window).programmes)
     (seekers_of (matrix_then other then window) other.people (lists_in_order other) (all_sought_then other then window)) later.seats) same_version made'.best in
-    let by_matrix = subst (λ (t : SeatTable). IsBest (rule_of facts.version t) (length t.programmes) (seekers_of t other.people (lists_in_order other) (all_sought_then other then window)) later.seats)
+    let by_matrix = subst (λ (t : SeatTable). IsBest (rule_of facts.version nobody t) (length t.programmes) (seekers_of t other.people (lists_in_order other) (all_sought_then other then window)) later.seats)
     same_matrix by_version in
-    let by_lists = subst (λ (l : List (List ProgId)). IsBest (rule_of facts.version table) (length table.programmes)
+    let by_lists = subst (λ (l : List (List ProgId)). IsBest (rule_of facts.version nobody table) (length table.programmes)
     (seekers_of table other.people l (all_sought_then other then window)) later.seats) lists by_matrix in
-    let best = subst (λ (q : List Seek). IsBest (rule_of facts.version table) (length table.programmes) (seekers_of table other.people (lists_in_order facts) q) later.seats) same_sought by_lists in
+    let best = subst (λ (q : List Seek). IsBest (rule_of facts.version nobody table) (length table.programmes) (seekers_of table other.people (lists_in_order facts) q) later.seats) same_sought by_lists in
     let enter' = subst (λ (l : List (List ProgId)). AreEntrants table other.people l) lists (subst (λ (t : SeatTable). AreEntrants t other.people (lists_in_order other)) same_matrix
     (may_enter other then window published'.sound course')) in
     let result : rank_of mine.s.list his.seat ≤ rank_of mine.s.list mine.seat =

@@ -2,11 +2,13 @@
 use Rattle.std.proofs.Common.{◌≡◌, ◌<◌, ◌≤◌, ℕ, List, ◌∷◌, Option, Some, length, map, refl, sym, ap, ◌∙◌, subst}
 use Rattle.std.specs.Prelude.{◌↔◌, slice_get}
 use Rattle.std.proofs.lemmas.List.{length-map}
-use Rattle.office_base.specs.declared.asks.Seat.{Seat}
+use Rattle.std.proofs.lemmas.Bool.{false≢true}
+use Rattle.office_base.specs.declared.seat.Seat.{Seat}
 use Rattle.office_base.specs.declared.person.CandId.{CandId}
 use Rattle.office_base.specs.declared.person.Person.{Person}
 use Rattle.office_base.specs.declared.person.ProgId.{ProgId}
-use Rattle.office_base.specs.declared.step.StepKind.{StepKind}
+use Rattle.office_base.specs.declared.seat.SeatKind.{SeatKind}
+use Rattle.office_base.specs.declared.seat.SeatKind.TheVariants.{Kept, Under}
 use Rattle.allocations.specs.Fair.{IsBest, IsFair, IsMarket, IsOwn}
 use Rattle.allocations.specs.Market.{Seeker, applicants, applies, rank_of}
 use Rattle.allocations.proofs.Claims.{applicants_may}
@@ -14,7 +16,7 @@ use Rattle.open_then_category.specs.Laws.{OneProgrammeChoice, ProgrammeChoiceExi
 use Rattle.seat_matrix.specs.Matrix.{AreSeats, SeatTable, seats_in}
 use Rattle.seeks.specs.Seek.{seek_leaves}
 use Rattle.seeks.specs.declared.seek.Seek.{Seek}
-use Rattle.rounds.specs.Rule.{MayApplyIn, ProgrammesChooseWell, rule_of, seekers_of}
+use Rattle.rounds.specs.Rule.{MayApplyIn, ProgrammesChooseWell, nobody, rule_of, seekers_of, steps_of}
 use Rattle.rounds.proofs.Entrants.{market}
 use Rattle.history_laws.proofs.Fits.{map_at}
 use Rattle.published_rounds.specs.Order.{KeepsOrder, OnlyTheOrderCounts}
@@ -55,16 +57,17 @@ module _ (exists : ProgrammeChoiceExists) (one : OneProgrammeChoice) (well : Pro
       record { s = s.0; there = s.1; is = s.2 }
 
   -- a programme admits the same persons
-  same_admits : (p : ℕ) (seats : List (Option Seat)) (x : Person) (kind : StepKind) → p < count → length seats ≡ length seekers
-      → rule_of version table p (applicants p seekers seats) x kind ↔ rule_of version table p (applicants p others seats) (f x) kind
-  same_admits p seats x kind below full =
-      let may = applicants_may (rule_of version table) (MayApplyIn table) count p seekers seats here (well version table ok) below full in
-      let may' = applicants_may (rule_of version table) (MayApplyIn table) count p others seats here' (well version table ok) below (full ∙ sym (length-map seekers (renumbered f))) in
+  same_admits : (p : ℕ) (seats : List (Option Seat)) (x : Person) (kind : SeatKind) → p < count → length seats ≡ length seekers
+      → rule_of version nobody table p (applicants p seekers seats) x kind ↔ rule_of version nobody table p (applicants p others seats) (f x) kind
+  same_admits p seats x Kept below full = (λ keeps. absurd (false≢true keeps.guaranteed_there), λ keeps. absurd (false≢true keeps.guaranteed_there))
+  same_admits p seats x (Under kind) below full =
+      let may = applicants_may (rule_of version nobody table) (MayApplyIn table) count p seekers seats here (well version nobody table ok) below full in
+      let may' = applicants_may (rule_of version nobody table) (MayApplyIn table) count p others seats here' (well version nobody table ok) below (full ∙ sym (length-map seekers (renumbered f))) in
       let same = applicants_map f p seekers seats in
-      subst (λ l. rule_of version table p (applicants p seekers seats) x kind ↔ rule_of version table p l (f x) kind) (sym same)
+      subst (λ l. steps_of version table p (applicants p seekers seats) x kind ↔ steps_of version table p l (f x) kind) (sym same)
       (admits_map g f keeps exists one version (seats_in table p) (applicants p seekers seats) x kind (ok.sound p below) may (subst (λ l. MayApplyIn table p l) same may'))
 
-  pub fair_map : (seats : List (Option Seat)) → IsFair (rule_of version table) count seekers seats → IsFair (rule_of version table) count others seats
+  pub fair_map : (seats : List (Option Seat)) → IsFair (rule_of version nobody table) count seekers seats → IsFair (rule_of version nobody table) count others seats
   fair_map seats fair = record {
     allocation = record {
       full = fair.allocation.full ∙ sym (length-map seekers (renumbered f));
@@ -77,12 +80,12 @@ module _ (exists : ProgrammeChoiceExists) (one : OneProgrammeChoice) (well : Pro
         let same = same_admits p seats b.s.person kind below fair.allocation.full in
         let agreed = fair.agrees p i b.s kind below b.there in
         let person : t.person ≡ f b.s.person = ap (λ (z : Seeker). z.person) b.is in (
-          λ admits. agreed.0 (same.1 (subst (λ z. rule_of version table p (applicants p others seats) z kind) person admits)),
-          λ has. subst (λ z. rule_of version table p (applicants p others seats) z kind) (sym person) (same.0 (agreed.1 has)),
+          λ admits. agreed.0 (same.1 (subst (λ z. rule_of version nobody table p (applicants p others seats) z kind) person admits)),
+          λ has. subst (λ z. rule_of version nobody table p (applicants p others seats) z kind) (sym person) (same.0 (agreed.1 has)),
         );
   }
 
-  map_fair : (seats : List (Option Seat)) → IsFair (rule_of version table) count others seats → IsFair (rule_of version table) count seekers seats
+  map_fair : (seats : List (Option Seat)) → IsFair (rule_of version nobody table) count others seats → IsFair (rule_of version nobody table) count seekers seats
   map_fair seats fair =
       let full : length seats ≡ length seekers = fair.allocation.full ∙ length-map seekers (renumbered f) in
       record {
@@ -96,7 +99,7 @@ module _ (exists : ProgrammeChoiceExists) (one : OneProgrammeChoice) (well : Pro
             (λ admits. agreed.0 (same.0 admits), λ has. same.1 (agreed.1 has));
       }
 
-  pub best_map : (seats : List (Option Seat)) → IsBest (rule_of version table) count seekers seats ↔ IsBest (rule_of version table) count others seats
+  pub best_map : (seats : List (Option Seat)) → IsBest (rule_of version nobody table) count seekers seats ↔ IsBest (rule_of version nobody table) count others seats
   best_map seats = (
     λ best. record {
       fair = fair_map seats best.fair;
@@ -117,5 +120,5 @@ only_the_order_counts exists one well version table people g f lists seeks seats
     let here = market table people lists seeks ok enter in
     let same = seekers_map f table people lists seeks in
     let here' = subst (λ l. IsMarket (MayApplyIn table) (length table.programmes) l) same (market table (map f people) lists seeks ok enter') in
-    subst (λ l. IsBest (rule_of version table) (length table.programmes) (seekers_of table people lists seeks) seats ↔ IsBest (rule_of version table) (length table.programmes) l seats) (sym same)
+    subst (λ l. IsBest (rule_of version nobody table) (length table.programmes) (seekers_of table people lists seeks) seats ↔ IsBest (rule_of version nobody table) (length table.programmes) l seats) (sym same)
     (best_map exists one well version table ok g f keeps (seekers_of table people lists seeks) here here' seats)

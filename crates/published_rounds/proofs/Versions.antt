@@ -2,7 +2,7 @@
 use Rattle.std.proofs.Common.{◌≡◌, ◌≤◌, ◌-◌, inl, inr, ℕ, zero, suc, Bool, true, false, List, [], ◌∷◌, Some, length, take, arith, refl, sym, ap, ◌∙◌, subst, not, ◌==◌, ◌||◌, if◌then◌else◌}
 use Rattle.std.specs.List.{list_all}
 use Rattle.std.specs.Option.{option_and_then}
-use Rattle.std.proofs.lemmas.Bool.{and_parts}
+use Rattle.std.proofs.lemmas.Bool.{and_parts, false≢true}
 use Rattle.std.proofs.lemmas.List.Sums.{sum-map}
 use Rattle.office_base.specs.CategorySteps.{category_steps, gives_away, gives_up}
 use Rattle.office_base.specs.Lists.{IsAmong}
@@ -11,6 +11,7 @@ use Rattle.office_base.specs.declared.category_steps.CategoryStep.{CategoryStep}
 use Rattle.office_base.specs.declared.category_steps.GivesUp.{GivesUp}
 use Rattle.office_base.specs.declared.category_steps.GivesUp.TheVariants.{Never, InVersion, Always}
 use Rattle.office_base.specs.declared.person.Person.{Person}
+use Rattle.office_base.specs.declared.seat.SeatKind.TheVariants.{Kept, Under}
 use Rattle.office_base.specs.declared.step.StepKind.{StepKind}
 use Rattle.office_base.specs.declared.step.StepKind.TheVariants.{Dereserved}
 use Rattle.office_base.specs.Merit.{in_merit}
@@ -25,7 +26,8 @@ use Rattle.seat_matrix.specs.Matrix.{SeatTable, seats_in}
 use Rattle.seat_matrix.specs.Seats.{is_dereserved, seats_of}
 use Rattle.seat_matrix.specs.Unfilled.{left_unfilled}
 use Rattle.seat_matrix.specs.declared.seats.ProgrammeSeats.{ProgrammeSeats}
-use Rattle.rounds.specs.Rule.{MayApplyIn, ProgrammesChooseWell, rule_of}
+use Rattle.kept_seats.proofs.Orders.{nobody_leaves}
+use Rattle.rounds.specs.Rule.{MayApplyIn, ProgrammesChooseWell, nobody, rule_of}
 use Rattle.office_moves.specs.Facts.{SeasonFacts}
 use Rattle.office_moves.specs.State.{seat_of}
 use Rattle.office_moves.proofs.Sums.{rows_less}
@@ -89,25 +91,18 @@ module _ (version : ℕ) (seats : ProgrammeSeats) (applicants : List Person) (ad
       (left_more version (λ kind. (seats_of seats kind).seats) (λ kind. length (admissions kind))) (subst (λ l. IsAmong x l) choice.dereserved here)
   still_admitted x kind here = here
 
-admits_still : (version : ℕ) (table : SeatTable) → Grows (rule_of version table) (rule_of 2 table) (MayApplyIn table)
-admits_still version table p people x may admits =
-    let a = admits.1 in
+admits_still : (version : ℕ) (table : SeatTable) → Grows (rule_of version nobody table) (rule_of 2 nobody table) (MayApplyIn table)
+admits_still version table p people x may (Kept, keeps) = absurd (false≢true keeps.guaranteed_there)
+admits_still version table p people x may (Under kind, a) =
     let seats = seats_in table p in
     let applicants = in_merit seats.list people in
-    (admits.0, (wider version seats applicants a.0 a.1, wider_choice version seats applicants a.0 a.1, still_admitted version seats applicants a.0 a.1 x admits.0 a.2))
+    (Under kind, (wider version seats applicants a.0 a.1, wider_choice version seats applicants a.0 a.1, still_admitted version seats applicants a.0 a.1 x kind a.2))
 
 -- ---- rounds
 
-nobody_leaves : (seekers : List Seeker) → SomeLeave seekers seekers
-nobody_leaves seekers = record {
-  same = refl;
-  persons = λ i s t at at'. let same : s ≡ t = cc in ap (λ (z : Seeker). z.person) same;
-  lists = λ i s t at at'. inl (let same : t ≡ s = cc in ap (λ (z : Seeker). z.list) same);
-}
-
 pub version_two_hurts_nobody : ProgrammesChooseWell → VersionTwoHurtsNobody
 version_two_hurts_nobody well version table seekers seats others i s seat other ok here fair best there has has' =
-    hurts_nobody (rule_of version table) (rule_of 2 table) (MayApplyIn table) (well version table ok) (well 2 table ok) (admits_still version table) (length table.programmes) i
+    hurts_nobody (rule_of version nobody table) (rule_of 2 nobody table) (MayApplyIn table) (well version nobody table ok) (well 2 nobody table ok) (admits_still version table) (length table.programmes) i
     seekers seekers seats others s s seat other here (nobody_leaves seekers) fair best there there refl has has'
 
 pub version_two_would_hurt_nobody : AreOrderly → VersionTwoHurtsNobody → (facts : SeasonFacts) → VersionTwoWouldHurtNobody facts

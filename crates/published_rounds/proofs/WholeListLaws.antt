@@ -5,7 +5,7 @@ use Rattle.std.proofs.lemmas.List.{length-map}
 use Rattle.std.proofs.lemmas.Option.{slice_get_within}
 use Rattle.office_base.specs.declared.asks.Choice.{Choice}
 use Rattle.office_base.specs.declared.asks.Choice.TheVariants.{Withdraw as ToWithdraw}
-use Rattle.office_base.specs.declared.asks.Seat.{Seat}
+use Rattle.office_base.specs.declared.seat.Seat.{Seat}
 use Rattle.office_base.specs.declared.person.Person.{Person}
 use Rattle.office_base.specs.declared.person.ProgId.{ProgId}
 use Rattle.office_base.proofs.Lists.{at_among, there_is}
@@ -17,7 +17,7 @@ use Rattle.seeks.specs.Seek.{seek_leaves}
 use Rattle.seeks.specs.declared.seek.Seek.{Seek}
 use Rattle.seeks.specs.declared.seek.Seek.TheVariants.{Whole, Nothing}
 use Rattle.seeks.proofs.Left.{left_nothing, left_up_to, left_whole}
-use Rattle.rounds.specs.Rule.{MayApplyIn, ProgrammesChooseWell, rule_of, seekers_of}
+use Rattle.rounds.specs.Rule.{MayApplyIn, ProgrammesChooseWell, nobody, rule_of, seekers_of}
 use Rattle.rounds.specs.declared.round.Round.{Round}
 use Rattle.rounds.proofs.Entrants.{entered, length_seekers, market}
 use Rattle.round_laws.specs.Laws.{MoreSeatsHurtNobody, SomeSeekNothing}
@@ -93,7 +93,7 @@ staying facts table state window = seekers_of table facts.people (lists_in_order
 -- the best round on them
 abbrev IsBestOnWhole : SeasonFacts → State → ℕ → Round → Type 0
 IsBestOnWhole facts state window round =
-    IsBest (rule_of facts.version (matrix_then facts state window)) (length (matrix_then facts state window).programmes) (staying facts (matrix_then facts state window) state window) round.seats
+    IsBest (rule_of facts.version nobody (matrix_then facts state window)) (length (matrix_then facts state window).programmes) (staying facts (matrix_then facts state window) state window) round.seats
 
 -- the first round
 at_first : (facts : SeasonFacts) (state : State) (round : Round) → IsCourse facts state → slice_get state.rounds 0 ≡ Some round → IsBestOnWhole facts state 0 round
@@ -102,7 +102,7 @@ at_first facts state round course is =
     let each = λ (id : ℕ). first_sought (standing_then facts state 0 id) (seat_in facts state.rounds 0 id)
     (option_map (λ (seat : Seat). place_of (list_of facts.lists id) seat.prog.0) (seat_in facts state.rounds 0 id)) (course.answers 0 id) in
     let same : all_sought_then facts state 0 ≡ all_whole_then facts state 0 = λ j. map (λ (person : Person). each person.id.0 j) facts.people in
-    subst (λ (seeks : List Seek). IsBest (rule_of facts.version table) (length table.programmes) (seekers_of table facts.people (lists_in_order facts) seeks) round.seats) same
+    subst (λ (seeks : List Seek). IsBest (rule_of facts.version nobody table) (length table.programmes) (seekers_of table facts.people (lists_in_order facts) seeks) round.seats) same
     (made_then facts state 0 round course is).best
 
 -- ---- from one round to the next
@@ -163,7 +163,7 @@ module _ (laws : AreLaws) (facts : SeasonFacts) (state : State) (window : ℕ) (
       let one : e.seek ≡ whole_if_staying (standing_then facts state (suc window) t.person.id.0) = (let a = e.seek_at in let b = sought_whole (suc window) i t.person e.person_at in cc) in
       record { list = e.list; person_at = e.person_at; list_at = e.list_at; leaves = e.leaves ∙ ap (λ q. seek_leaves more q e.list) one }
 
-  no_worse : DoNoWorse (rule_of facts.version more) (length more.programmes) whole prev.seats
+  no_worse : DoNoWorse (rule_of facts.version nobody more) (length more.programmes) whole prev.seats
   no_worse others i t seat other best there has has' =
       let st = stays_at i t there in
       let standing = standing_then facts state (suc window) t.person.id.0 in
@@ -173,8 +173,8 @@ module _ (laws : AreLaws) (facts : SeasonFacts) (state : State) (window : ℕ) (
               | inl one ↦ sym one ∙ all
               | inr none ↦ absurd (let e : Whole ≡ Nothing = sym all ∙ none in cc)
             ] in
-            let result = laws.more_seats facts.version table more facts.people (lists_in_order facts) (all_whole_then facts state window) (all_whole_then facts state (suc window)) prev.seats others i
-            st.list Whole seat other (orderly.course.seats (suc window)) (orderly.course.seats (suc (suc window))) (orderly.course.raised (suc window))
+            let result = laws.more_seats facts.version nobody nobody table more facts.people (lists_in_order facts) (all_whole_then facts state window) (all_whole_then facts state (suc window)) prev.seats others i
+            st.list Whole seat other (λ p person sure. sure) (orderly.course.seats (suc window)) (orderly.course.seats (suc (suc window))) (orderly.course.raised (suc window))
             (may_enter facts state window sound orderly.course) some_nothing st.list_at (sought_whole window i t.person st.person_at ∙ ap Some same)
             (sought_whole (suc window) i t.person st.person_at ∙ ap Some all) before.fair best has has' in
             let by_list : rank_of st.list other ≤ rank_of st.list seat = subst (λ l. rank_of l other ≤ rank_of l seat) (left_whole table st.list 0 st.list) result in
@@ -230,7 +230,7 @@ module _ (laws : AreLaws) (facts : SeasonFacts) (state : State) (window : ℕ) (
 
   next_best : IsBestOnWhole facts state (suc window) round
   next_best =
-      fronts_are_best (rule_of facts.version more) (MayApplyIn more) (length more.programmes) (laws.well facts.version more (orderly.course.seats (suc (suc window)))) whole now prev.seats round.seats
+      fronts_are_best (rule_of facts.version nobody more) (MayApplyIn more) (length more.programmes) (laws.well facts.version nobody more (orderly.course.seats (suc (suc window)))) whole now prev.seats round.seats
       (market more facts.people (lists_in_order facts) (all_whole_then facts state (suc window)) (orderly.course.seats (suc (suc window))) (may_enter facts state (suc window) sound orderly.course))
       (market more facts.people (lists_in_order facts) (all_sought_then facts state (suc window)) (orderly.course.seats (suc (suc window))) (may_enter facts state (suc window) sound orderly.course))
       fronts no_worse (made_then facts state (suc window) round orderly.course is').best

@@ -4,14 +4,16 @@ use Rattle.std.specs.List.{filter}
 use Rattle.std.proofs.lemmas.Bool.{and_parts, eqb-true}
 use Rattle.std.proofs.lemmas.List.{length-take}
 use Rattle.std.proofs.lemmas.List.Sums.{sum-map}
-use Rattle.office_base.proofs.StepNumbers.{one_number}
+use Rattle.office_base.proofs.SeatKinds.{one_seat_kind}
 use Rattle.office_base.specs.CategorySteps.{category_steps, gives_up}
 use Rattle.office_base.specs.Lists.{IsSublist}
 use Rattle.office_base.specs.Merit.{in_merit}
+use Rattle.office_base.specs.SeatKinds.{seat_kind_number}
 use Rattle.office_base.specs.StepNumbers.{step_number}
-use Rattle.office_base.specs.declared.asks.Seat.{Seat}
+use Rattle.office_base.specs.declared.seat.Seat.{Seat}
 use Rattle.office_base.specs.declared.category_steps.CategoryStep.{CategoryStep}
 use Rattle.office_base.specs.declared.person.Person.{Person}
+use Rattle.office_base.specs.declared.seat.SeatKind.TheVariants.{Under}
 use Rattle.office_base.specs.declared.step.StepKind.{StepKind}
 use Rattle.office_base.specs.declared.step.StepKind.TheVariants.{Dereserved}
 use Rattle.placements.proofs.Sublists.{IsSublist-take, sublist_again}
@@ -38,15 +40,15 @@ as_many f (s ∷ seekers) (seat ∷ seats) full = length_if (f seat) s.person se
 as_many f seekers seats full = absurd (omega (arith, full))
 
 -- a seat of a step of a programme is one of it
-pub under_is : (prog : ℕ) (step : StepKind) (seat : Option Seat) → is_seat_under prog step seat ≡ true → seat ≡ Some (seat_at prog step)
+pub under_is : (prog : ℕ) (step : StepKind) (seat : Option Seat) → is_seat_under prog step seat ≡ true → seat ≡ Some (seat_at prog (Under step))
 under_is prog step None e = absurd (cc)
 under_is prog step (Some seat) e =
-    let parts = and_parts (seat.prog.0 == prog) (step_number seat.step == step_number step) e in
-    ap Some (seat_same seat (seat_at prog step) (eqb-true _ _ parts.0) (one_number seat.step step (eqb-true _ _ parts.1)))
+    let parts = and_parts (seat.prog.0 == prog) (seat_kind_number seat.step == step_number step) e in
+    ap Some (seat_same seat (seat_at prog (Under step)) (eqb-true _ _ parts.0) (one_seat_kind seat.step (Under step) (eqb-true _ _ parts.1)))
 
 pub under_of : (prog : ℕ) (step : StepKind) (seat : Option Seat) → is_seat_under prog step seat ≡ true → is_of prog seat ≡ true
 under_of prog step None e = absurd (cc)
-under_of prog step (Some seat) e = (and_parts (seat.prog.0 == prog) (step_number seat.step == step_number step) e).0
+under_of prog step (Some seat) e = (and_parts (seat.prog.0 == prog) (seat_kind_number seat.step == step_number step) e).0
 
 -- ---- whom a programme admits
 

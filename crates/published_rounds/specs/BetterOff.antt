@@ -1,6 +1,6 @@
 -- That being better off never hurts a candidate in a round.
 use Rattle.std.specs.Prelude.{◌≡◌, ◌≢◌, ◌≤◌, ℕ, List, Option, Some, length, slice_get}
-use Rattle.office_base.specs.declared.asks.Seat.{Seat}
+use Rattle.office_base.specs.declared.seat.Seat.{Seat}
 use Rattle.office_base.specs.declared.person.Person.{Person}
 use Rattle.office_base.specs.declared.person.ProgId.{ProgId}
 use Rattle.allocations.specs.Fair.{IsBest, IsFair}
@@ -8,7 +8,7 @@ use Rattle.allocations.specs.Market.{Seeker, rank_of}
 use Rattle.programme_laws.specs.Laws.{IsNoWorseOff}
 use Rattle.seat_matrix.specs.Matrix.{AreSeats, SeatTable, list_in}
 use Rattle.seeks.specs.declared.seek.Seek.{Seek}
-use Rattle.rounds.specs.Rule.{AreEntrants, rule_of, seekers_of}
+use Rattle.rounds.specs.Rule.{AreEntrants, nobody, rule_of, seekers_of}
 use Rattle.rounds.specs.declared.round.Round.{Round}
 use Rattle.office_moves.specs.Facts.{SeasonFacts}
 use Rattle.office_moves.specs.Promise.{all_sought_then}
@@ -30,8 +30,8 @@ pub record OneIsBetterOff (table : SeatTable) (i : ℕ) (before after : Person) 
 abbrev pub BetterOffIsNoWorse : Type 0
 BetterOffIsNoWorse = (version : ℕ) (table : SeatTable) (people changed : List Person) (lists : List (List ProgId)) (seeks : List Seek) (seats others : List (Option Seat)) (i : ℕ)
     (before after : Person) (s : Seeker) (seat other : Option Seat) → AreSeats table → AreEntrants table people lists → AreEntrants table changed lists
-    → OneIsBetterOff table i before after people changed → IsFair (rule_of version table) (length table.programmes) (seekers_of table people lists seeks) seats
-    → IsBest (rule_of version table) (length table.programmes) (seekers_of table changed lists seeks) others → slice_get (seekers_of table people lists seeks) i ≡ Some s
+    → OneIsBetterOff table i before after people changed → IsFair (rule_of version nobody table) (length table.programmes) (seekers_of table people lists seeks) seats
+    → IsBest (rule_of version nobody table) (length table.programmes) (seekers_of table changed lists seeks) others → slice_get (seekers_of table people lists seeks) i ≡ Some s
     → slice_get seats i ≡ Some seat → slice_get others i ≡ Some other → rank_of s.list other ≤ rank_of s.list seat
 
 -- Two seasons are the same but for one candidate, who is no worse off in the second.

@@ -1,9 +1,11 @@
 -- What a candidate reads off the cutoffs of a round.
 use Rattle.std.specs.Prelude.{◌≡◌, ◌⊎◌, ℕ, List, [], ◌∷◌, Option, Some, None, slice_get}
-use Rattle.office_base.specs.declared.asks.Seat.{Seat}
+use Rattle.office_base.specs.declared.seat.Seat.{Seat}
+use Rattle.office_base.specs.declared.seat.SeatKind.TheVariants.{Under}
 use Rattle.office_base.specs.declared.person.ListId.{ListId}
 use Rattle.office_base.specs.declared.person.Person.{Person}
 use Rattle.office_base.specs.declared.person.ProgId.{ProgId}
+use Rattle.office_base.specs.declared.step.StepKind.{StepKind}
 use Rattle.seat_matrix.specs.Matrix.{seats_in}
 use Rattle.programme_lists.specs.declared.programme.Programme.{Programme}
 use Rattle.list_cutoffs.specs.Cutoffs.{AreCutoffsIn}
@@ -21,5 +23,5 @@ AreCutoffsThen facts round cutoffs = (prog : ℕ) (programme : Programme) → sl
 abbrev pub IsSeatOfFirst : (ℕ → ListId) → (ℕ → List StepCutoff) → Person → List ProgId → Option Seat → Type 0
 IsSeatOfFirst lists cutoffs person [] seat = seat ≡ None
 IsSeatOfFirst lists cutoffs person (prog ∷ progs) seat =
-    ((own : Seat) × (seat ≡ Some own) × (own.prog ≡ prog) × IsWithinFirst (lists prog.0) person own.step (cutoffs prog.0))
+    ((own : Seat) × (step : StepKind) × (seat ≡ Some own) × (own.prog ≡ prog) × (own.step ≡ Under step) × IsWithinFirst (lists prog.0) person step (cutoffs prog.0))
     ⊎ ((IsWithinLines (lists prog.0) person (cutoffs prog.0) → ⊥) × IsSeatOfFirst lists cutoffs person progs seat)

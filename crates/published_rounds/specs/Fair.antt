@@ -2,8 +2,9 @@
 use Rattle.std.specs.Prelude.{◌≡◌, ◌<◌, ◌↔◌, ◌+◌, ◌-◌, ◌&&◌, ℕ, true, not, List, [], ◌∷◌, Option, Some, None, length, slice_get, sum_by, if◌then◌else◌}
 use Rattle.office_base.specs.CategorySteps.{own_steps}
 use Rattle.office_base.specs.Person.{IsBetter}
-use Rattle.office_base.specs.declared.asks.Seat.{Seat}
+use Rattle.office_base.specs.declared.seat.Seat.{Seat}
 use Rattle.office_base.specs.declared.person.Person.{Person}
+use Rattle.office_base.specs.declared.seat.SeatKind.TheVariants.{Under}
 use Rattle.office_base.specs.declared.step.StepKind.{StepKind}
 use Rattle.office_base.specs.declared.step.StepKind.TheVariants.{Dereserved}
 use Rattle.allocations.specs.Fair.{IsFair, IsMarket}
@@ -11,14 +12,14 @@ use Rattle.allocations.specs.Market.{Seeker, is_of, place_of, seat_at, wants}
 use Rattle.programme_laws.specs.Laws.{HoldsEachTraitOf, MayStandFor}
 use Rattle.seat_matrix.specs.Matrix.{AreSeats, SeatTable, list_in, seating_in}
 use Rattle.seat_matrix.specs.Unfilled.{left_unfilled}
-use Rattle.rounds.specs.Rule.{MayApplyIn, rule_of}
+use Rattle.rounds.specs.Rule.{MayApplyIn, nobody, rule_of}
 use Rattle.published_rounds.specs.Published.{seats_under}
 
 -- The seats are fair for these seekers, over this matrix and in this version: as in a published round, in the special round, and in a round that an audit passes.
 pub record AreFairOver (version : ℕ) (table : SeatTable) (seekers : List Seeker) (seats : List (Option Seat)) : Type 0 where
   pub are_seats : AreSeats table
   pub market : IsMarket (MayApplyIn table) (length table.programmes) seekers
-  pub fair : IsFair (rule_of version table) (length table.programmes) seekers seats
+  pub fair : IsFair (rule_of version nobody table) (length table.programmes) seekers seats
 
 -- the seats that a step of a programme has to fill; the de-reserved step has those that categories left empty and give away in this version
 abbrev pub seats_to_fill : ℕ → SeatTable → ℕ → List (Option Seat) → StepKind → ℕ
@@ -46,7 +47,7 @@ pub record IsOpenTo (table : SeatTable) (seekers : List Seeker) (seats : List (O
   pub holder : Seeker
   pub there : slice_get seekers place ≡ Some holder
   pub step : StepKind
-  pub holds : slice_get seats place ≡ Some (Some (seat_at prog step))
+  pub holds : slice_get seats place ≡ Some (Some (seat_at prog (Under step)))
   pub may : MayStandFor (list_in table prog) step person
   pub traits : HoldsEachTraitOf person holder.person
   pub not_better : IsBetter (list_in table prog) holder.person person → ⊥

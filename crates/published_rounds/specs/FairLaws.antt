@@ -1,9 +1,10 @@
 -- What fair seats are worth, over any market of a round.
 use Rattle.std.specs.Prelude.{◌≡◌, ◌<◌, ◌≤◌, ℕ, true, List, Option, Some, count_by, length, slice_get, ◌+◌}
 use Rattle.office_base.specs.Person.{IsBetter}
-use Rattle.office_base.specs.declared.asks.Seat.{Seat}
+use Rattle.office_base.specs.declared.seat.Seat.{Seat}
 use Rattle.office_base.specs.declared.person.Person.{Person}
 use Rattle.office_base.specs.declared.person.ProgId.{ProgId}
+use Rattle.office_base.specs.declared.seat.SeatKind.TheVariants.{Under}
 use Rattle.office_base.specs.declared.step.StepKind.{StepKind}
 use Rattle.allocations.specs.Fair.{IsNextMarket}
 use Rattle.allocations.specs.Market.{Seeker, is_of, seat_at, wants}
@@ -12,7 +13,7 @@ use Rattle.seat_matrix.specs.Matrix.{AreSeats, SeatTable, list_in, seats_in}
 use Rattle.seat_matrix.specs.Seats.{HaveMoreSeats}
 use Rattle.seeks.specs.declared.seek.Seek.{Seek}
 use Rattle.rounds.specs.Round.{IsRound}
-use Rattle.rounds.specs.Rule.{AreEntrants, seekers_of}
+use Rattle.rounds.specs.Rule.{AreEntrants, nobody, seekers_of}
 use Rattle.rounds.specs.declared.round.Round.{Round}
 use Rattle.published_rounds.specs.Published.{AreWithin, IsThatOrEarlier}
 use Rattle.published_rounds.specs.Fair.{AreFairOver, HasSeatLeft, IsDecided, newly_seated, raised_in}
@@ -22,8 +23,13 @@ use Rattle.published_rounds.specs.Fair.{AreFairOver, HasSeatLeft, IsDecided, new
 abbrev pub NobodyIsEnviedWhereFair : Type 0
 NobodyIsEnviedWhereFair = (version : ℕ) (table : SeatTable) (seekers : List Seeker) (seats : List (Option Seat)) (prog i j : ℕ) (step : StepKind) (better worse : Seeker) (seat : Option Seat)
     → AreFairOver version table seekers seats → slice_get seekers i ≡ Some better → slice_get seats i ≡ Some seat → slice_get seekers j ≡ Some worse
-    → slice_get seats j ≡ Some (Some (seat_at prog step)) → wants prog better.list ≡ true → IsBetter (list_in table prog) better.person worse.person
+    → slice_get seats j ≡ Some (Some (seat_at prog (Under step))) → wants prog better.list ≡ true → IsBetter (list_in table prog) better.person worse.person
     → MayStandFor (list_in table prog) step better.person → HoldsEachTraitOf better.person worse.person → IsThatOrEarlier better.list prog seat
+
+-- where nobody is guaranteed a seat, each seat is under a step
+abbrev pub NobodyIsKeptWhereFair : Type 0
+NobodyIsKeptWhereFair = (version : ℕ) (table : SeatTable) (seekers : List Seeker) (seats : List (Option Seat)) (i : ℕ) (s : Seeker) (seat : Seat)
+    → AreFairOver version table seekers seats → slice_get seekers i ≡ Some s → slice_get seats i ≡ Some (Some seat) → (step : StepKind) × (seat.step ≡ Under step)
 
 -- no step of a programme gives more seats than it has
 abbrev pub SeatsAreWithinWhereFair : Type 0
@@ -65,4 +71,4 @@ FewNewlySeated = (version : ℕ) (table more : SeatTable) (seekers next : List S
 -- Every round over a matrix has fair seats, so all of these hold of it: of a round of a season, and of the special round too.
 abbrev pub RoundsAreFair : Type 0
 RoundsAreFair = (version : ℕ) (table : SeatTable) (people : List Person) (lists : List (List ProgId)) (n : ℕ) (seeks : List Seek) (round : Round) → AreSeats table
-    → AreEntrants table people lists → IsRound version table people lists n seeks round → AreFairOver version table (seekers_of table people lists seeks) round.seats
+    → AreEntrants table people lists → IsRound version nobody table people lists n seeks round → AreFairOver version table (seekers_of table people lists seeks) round.seats

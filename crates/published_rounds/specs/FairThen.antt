@@ -3,6 +3,7 @@ use Rattle.std.specs.Prelude.{◌≡◌, ◌<◌, ◌≤◌, ◌↔◌, ℕ, suc
 use Rattle.office_base.specs.Lists.{IsAmong}
 use Rattle.office_base.specs.Person.{IsBetter}
 use Rattle.office_base.specs.declared.person.Person.{Person}
+use Rattle.office_base.specs.declared.seat.SeatKind.TheVariants.{Under}
 use Rattle.office_base.specs.declared.step.StepKind.{StepKind}
 use Rattle.allocations.specs.Market.{is_of, place_of, seat_at, wants}
 use Rattle.programme_laws.specs.Laws.{HoldsEachTraitOf, MayStandFor}
@@ -28,7 +29,7 @@ pub record IsOpenThen (facts : SeasonFacts) (round : Round) (prog : ℕ) (person
   pub holder : Person
   pub among : IsAmong holder facts.people
   pub step : StepKind
-  pub holds : seat_of facts (Some round) holder.id.0 ≡ Some (seat_at prog step)
+  pub holds : seat_of facts (Some round) holder.id.0 ≡ Some (seat_at prog (Under step))
   pub may : MayStandFor (list_in facts.matrix prog) step person
   pub traits : HoldsEachTraitOf person holder
   pub not_better : IsBetter (list_in facts.matrix prog) holder person → ⊥

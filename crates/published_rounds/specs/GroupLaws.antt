@@ -1,13 +1,13 @@
 -- No group of candidates can all gain by other lists.
 use Rattle.std.specs.Prelude.{◌≡◌, ◌<◌, ℕ, Bool, true, false, List, Option, Some, length, slice_get}
-use Rattle.office_base.specs.declared.asks.Seat.{Seat}
+use Rattle.office_base.specs.declared.seat.Seat.{Seat}
 use Rattle.office_base.specs.declared.person.Person.{Person}
 use Rattle.office_base.specs.declared.person.ProgId.{ProgId}
 use Rattle.allocations.specs.Fair.{IsFair}
 use Rattle.allocations.specs.Market.{rank_of}
 use Rattle.seat_matrix.specs.Matrix.{AreSeats, SeatTable}
 use Rattle.seeks.specs.declared.seek.Seek.{Seek}
-use Rattle.rounds.specs.Rule.{AreEntrants, MayApplyIn, rule_of, seekers_of}
+use Rattle.rounds.specs.Rule.{AreEntrants, MayApplyIn, nobody, rule_of, seekers_of}
 use Rattle.rounds.specs.declared.round.Round.{Round}
 use Rattle.office_moves.specs.Facts.{SeasonFacts, lists_in_order}
 use Rattle.office_moves.specs.Promise.{all_sought_then}
@@ -18,7 +18,7 @@ use Rattle.published_rounds.specs.Groups.{NoGroupGains}
 
 -- over every matrix
 abbrev pub NoGroupGainsInARound : Type 0
-NoGroupGainsInARound = (version : ℕ) (table : SeatTable) → AreSeats table → NoGroupGains (rule_of version table) (MayApplyIn table)
+NoGroupGainsInARound = (version : ℕ) (table : SeatTable) → AreSeats table → NoGroupGains (rule_of version nobody table) (MayApplyIn table)
 
 -- As many lists and seeks, and the same ones but for those at the places of the group.
 pub record AreOtherwiseTogether (group : ℕ → Bool) (lists told : List (List ProgId)) (seeks sought : List Seek) : Type 0 where
@@ -38,5 +38,5 @@ abbrev pub NoGroupWouldGain : SeasonFacts → Type 0
 NoGroupWouldGain facts = (entries : List Entry) (state : State) (window : ℕ) (round : Round) (group : ℕ → Bool) (i : ℕ) (person : Person) (told : List (List ProgId)) (sought : List Seek)
     (others : List (Option Seat)) → IsPublished facts entries state window round → slice_get facts.people i ≡ Some person → group i ≡ true
     → AreEntrants (matrix_then facts state window) facts.people told → AreOtherwiseTogether group (lists_in_order facts) told (all_sought_then facts state window) sought
-    → IsFair (rule_of facts.version (matrix_then facts state window)) (length (matrix_then facts state window).programmes)
+    → IsFair (rule_of facts.version nobody (matrix_then facts state window)) (length (matrix_then facts state window).programmes)
     (seekers_of (matrix_then facts state window) facts.people told sought) others → AllWouldGain facts state window round group others → ⊥

@@ -1,6 +1,6 @@
 -- Groups who hand in other lists together.
 use Rattle.std.specs.Prelude.{◌≡◌, ◌<◌, ℕ, Bool, true, false, List, Option, Some, length, slice_get}
-use Rattle.office_base.specs.declared.asks.Seat.{Seat}
+use Rattle.office_base.specs.declared.seat.Seat.{Seat}
 use Rattle.office_base.specs.declared.person.Person.{Person}
 use Rattle.allocations.specs.Fair.{IsBest, IsFair, IsMarket}
 use Rattle.allocations.specs.Market.{Seeker, rank_of}

@@ -2,7 +2,9 @@
 use Rattle.std.specs.Prelude.{◌≡◌, ◌<◌, ◌≤◌, ℕ, true, List, Option, Some, length, slice_get}
 use Rattle.office_base.specs.Lists.{IsAmong}
 use Rattle.office_base.specs.Person.{IsBetter}
-use Rattle.office_base.specs.declared.asks.Seat.{Seat}
+use Rattle.office_base.specs.declared.seat.Seat.{Seat}
+use Rattle.office_base.specs.declared.seat.SeatKind.TheVariants.{Under}
+use Rattle.office_base.specs.declared.step.StepKind.{StepKind}
 use Rattle.office_base.specs.declared.person.Person.{Person}
 use Rattle.office_base.specs.declared.person.ProgId.{ProgId}
 use Rattle.allocations.specs.Compared.{SeatAlike}
@@ -11,7 +13,7 @@ use Rattle.allocations.specs.Market.{rank_of, wants}
 use Rattle.programme_laws.specs.Laws.{HoldsEachTraitOf, MayStandFor}
 use Rattle.seat_matrix.specs.Matrix.{list_in}
 use Rattle.seeks.specs.declared.seek.Seek.{Seek}
-use Rattle.rounds.specs.Rule.{AreEntrants, IsRaised, rule_of, seekers_of}
+use Rattle.rounds.specs.Rule.{AreEntrants, IsRaised, nobody, rule_of, seekers_of}
 use Rattle.rounds.specs.declared.round.Round.{Round}
 use Rattle.round_laws.specs.Laws.{AreOtherwise, SomeSeekNothing}
 use Rattle.office_moves.specs.Facts.{SeasonFacts, lists_in_order}
@@ -23,10 +25,10 @@ use Rattle.published_rounds.specs.Published.{AreFairThen, AreWithin, IsPublished
 -- No envy is justified. Somebody has a seat in a published round. You are better in merit on the list of its programme, may stand for its step, hold each trait
 -- that they hold, and seek the programme. Then you have a seat of that programme, or of one that you seek more.
 abbrev pub NobodyIsEnvied : SeasonFacts → Type 0
-NobodyIsEnvied facts = (entries : List Entry) (state : State) (window : ℕ) (round : Round) (better worse : Person) (seat : Seat) → IsPublished facts entries state window round
-    → IsAmong better facts.people → IsAmong worse facts.people → seat_of facts (Some round) worse.id.0 ≡ Some seat
+NobodyIsEnvied facts = (entries : List Entry) (state : State) (window : ℕ) (round : Round) (better worse : Person) (seat : Seat) (step : StepKind) → IsPublished facts entries state window round
+    → IsAmong better facts.people → IsAmong worse facts.people → seat_of facts (Some round) worse.id.0 ≡ Some seat → seat.step ≡ Under step
     → wants seat.prog.0 (wanted_then facts state window better.id.0) ≡ true → IsBetter (list_in facts.matrix seat.prog.0) better worse
-    → MayStandFor (list_in facts.matrix seat.prog.0) seat.step better → HoldsEachTraitOf better worse
+    → MayStandFor (list_in facts.matrix seat.prog.0) step better → HoldsEachTraitOf better worse
     → IsThatOrEarlier (wanted_then facts state window better.id.0) seat.prog.0 (seat_of facts (Some round) better.id.0)
 
 -- No programme is over its seats: in a published round no step of it gives more seats than it has.
@@ -46,7 +48,7 @@ abbrev pub NoOtherListGivesMore : SeasonFacts → Type 0
 NoOtherListGivesMore facts = (entries : List Entry) (state : State) (window : ℕ) (round : Round) (i : ℕ) (person : Person) (told : List (List ProgId)) (sought : List Seek)
     (others : List (Option Seat)) (other : Option Seat) → IsPublished facts entries state window round → slice_get facts.people i ≡ Some person
     → AreEntrants (matrix_then facts state window) facts.people told → AreOtherwise i (lists_in_order facts) told (all_sought_then facts state window) sought
-    → IsFair (rule_of facts.version (matrix_then facts state window)) (length (matrix_then facts state window).programmes)
+    → IsFair (rule_of facts.version nobody (matrix_then facts state window)) (length (matrix_then facts state window).programmes)
     (seekers_of (matrix_then facts state window) facts.people told sought) others → slice_get others i ≡ Some other
     → rank_of (wanted_then facts state window person.id.0) (seat_of facts (Some round) person.id.0) ≤ rank_of (wanted_then facts state window person.id.0) other
 

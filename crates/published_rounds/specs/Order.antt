@@ -2,7 +2,7 @@
 use Rattle.std.specs.Prelude.{◌≡◌, ◌↔◌, ℕ, List, Option, length, map}
 use Rattle.office_base.specs.Merit.{is_better}
 use Rattle.office_base.specs.Person.{is_common}
-use Rattle.office_base.specs.declared.asks.Seat.{Seat}
+use Rattle.office_base.specs.declared.seat.Seat.{Seat}
 use Rattle.office_base.specs.declared.person.CandId.{CandId}
 use Rattle.office_base.specs.declared.person.ListId.{ListId}
 use Rattle.office_base.specs.declared.person.Person.{Person}
@@ -10,7 +10,7 @@ use Rattle.office_base.specs.declared.person.ProgId.{ProgId}
 use Rattle.allocations.specs.Fair.{IsBest}
 use Rattle.seat_matrix.specs.Matrix.{AreSeats, SeatTable}
 use Rattle.seeks.specs.declared.seek.Seek.{Seek}
-use Rattle.rounds.specs.Rule.{AreEntrants, rule_of, seekers_of}
+use Rattle.rounds.specs.Rule.{AreEntrants, nobody, rule_of, seekers_of}
 
 -- It gives each person other numbers in the same order, and an id by a renaming that keeps ids apart. The traits and the category stay, and in each list who is
 -- common and who is better than whom. Different persons stay different.
@@ -28,5 +28,5 @@ pub record KeepsOrder (rename : CandId → CandId) (renumber : Person → Person
 abbrev pub OnlyTheOrderCounts : Type 0
 OnlyTheOrderCounts = (version : ℕ) (table : SeatTable) (people : List Person) (rename : CandId → CandId) (renumber : Person → Person) (lists : List (List ProgId)) (seeks : List Seek) (seats : List (Option Seat))
     → AreSeats table → KeepsOrder rename renumber → AreEntrants table people lists → AreEntrants table (map renumber people) lists
-    → IsBest (rule_of version table) (length table.programmes) (seekers_of table people lists seeks) seats
-    ↔ IsBest (rule_of version table) (length table.programmes) (seekers_of table (map renumber people) lists seeks) seats
+    → IsBest (rule_of version nobody table) (length table.programmes) (seekers_of table people lists seeks) seats
+    ↔ IsBest (rule_of version nobody table) (length table.programmes) (seekers_of table (map renumber people) lists seeks) seats

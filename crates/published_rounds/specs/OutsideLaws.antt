@@ -1,6 +1,6 @@
 -- What a cutoff says of a candidate who took no part in a round.
 use Rattle.std.specs.Prelude.{◌≡◌, ℕ, List, [], Option, Some, length, slice_get}
-use Rattle.office_base.specs.declared.asks.Seat.{Seat}
+use Rattle.office_base.specs.declared.seat.Seat.{Seat}
 use Rattle.office_base.specs.declared.person.Person.{Person}
 use Rattle.office_base.specs.declared.person.ProgId.{ProgId}
 use Rattle.allocations.specs.Fair.{IsFair}
@@ -8,7 +8,7 @@ use Rattle.seat_matrix.specs.Matrix.{list_in}
 use Rattle.list_cutoffs.specs.declared.cutoffs.StepCutoff.{StepCutoff}
 use Rattle.programme_cutoffs.specs.Reading.{IsWithinLines}
 use Rattle.seeks.specs.declared.seek.Seek.{Seek}
-use Rattle.rounds.specs.Rule.{AreEntrants, rule_of, seekers_of}
+use Rattle.rounds.specs.Rule.{AreEntrants, nobody, rule_of, seekers_of}
 use Rattle.rounds.specs.declared.round.Round.{Round}
 use Rattle.round_laws.specs.Laws.{AreOtherwise}
 use Rattle.office_moves.specs.Facts.{SeasonFacts, lists_in_order}
@@ -24,7 +24,7 @@ pub record AreFairOtherwise (facts : SeasonFacts) (state : State) (window i : �
   pub sought : List Seek
   pub entrants : AreEntrants (matrix_then facts state window) facts.people told
   pub otherwise : AreOtherwise i (lists_in_order facts) told (all_sought_then facts state window) sought
-  pub fair : IsFair (rule_of facts.version (matrix_then facts state window)) (length (matrix_then facts state window).programmes) (seekers_of (matrix_then facts state window) facts.people told sought) others
+  pub fair : IsFair (rule_of facts.version nobody (matrix_then facts state window)) (length (matrix_then facts state window).programmes) (seekers_of (matrix_then facts state window) facts.people told sought) others
 
 -- Outside is outside for good. A candidate who sought nothing in a published round is within no line of a programme.
 -- Then no list of theirs gives them a seat of that programme, in any allocation that is fair with it.

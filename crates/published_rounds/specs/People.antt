@@ -2,9 +2,10 @@
 use Rattle.std.specs.Prelude.{◌≡◌, ◌<◌, ◌↔◌, ℕ, true, List, Option, Some, None, length, map}
 use Rattle.office_base.specs.Lists.{IsAmong}
 use Rattle.office_base.specs.Person.{IsBetter}
-use Rattle.office_base.specs.declared.asks.Seat.{Seat}
+use Rattle.office_base.specs.declared.seat.Seat.{Seat}
 use Rattle.office_base.specs.declared.person.Person.{Person}
 use Rattle.office_base.specs.declared.person.ProgId.{ProgId}
+use Rattle.office_base.specs.declared.seat.SeatKind.TheVariants.{Under}
 use Rattle.office_base.specs.declared.step.StepKind.{StepKind}
 use Rattle.allocations.specs.Market.{Seeker, is_of, place_of, seat_at, wants}
 use Rattle.programme_laws.specs.Laws.{HoldsEachTraitOf, MayStandFor}
@@ -38,7 +39,7 @@ pub record IsOpenFor (table : SeatTable) (people : List Person) (got : ℕ → O
   pub holder : Person
   pub among : IsAmong holder people
   pub step : StepKind
-  pub holds : got holder.id.0 ≡ Some (seat_at prog step)
+  pub holds : got holder.id.0 ≡ Some (seat_at prog (Under step))
   pub may : MayStandFor (list_in table prog) step person
   pub traits : HoldsEachTraitOf person holder
   pub not_better : IsBetter (list_in table prog) holder person → ⊥
@@ -58,9 +59,11 @@ pub record IsDecidedFor (table : SeatTable) (people : List Person) (wanted : Lis
 pub record AreJustified (version : ℕ) (table : SeatTable) (people : List Person) (wanted : ℕ → List ProgId) (got : ℕ → Option Seat) : Type 0 where
   -- Nobody is envied. Somebody has a seat, and a better one wants its programme, may stand for its step and holds each trait that they hold.
   -- Then the better one has a seat of that programme, or of one wanted more.
-  pub nobody_is_envied : (better worse : Person) (seat : Seat) → IsAmong better people → IsAmong worse people → got worse.id.0 ≡ Some seat
-      → wants seat.prog.0 (wanted better.id.0) ≡ true → IsBetter (list_in table seat.prog.0) better worse → MayStandFor (list_in table seat.prog.0) seat.step better
+  pub nobody_is_envied : (better worse : Person) (seat : Seat) (step : StepKind) → IsAmong better people → IsAmong worse people → got worse.id.0 ≡ Some seat → seat.step ≡ Under step
+      → wants seat.prog.0 (wanted better.id.0) ≡ true → IsBetter (list_in table seat.prog.0) better worse → MayStandFor (list_in table seat.prog.0) step better
       → HoldsEachTraitOf better worse → IsThatOrEarlier (wanted better.id.0) seat.prog.0 (got better.id.0)
+  -- each seat is under a step
+  pub nobody_is_kept : (person : Person) (seat : Seat) → IsAmong person people → got person.id.0 ≡ Some seat → (step : StepKind) × (seat.step ≡ Under step)
   -- No seat is wasted. A step of a programme has a seat left, and a person wants the programme and may stand for the step.
   -- Then the person has a seat of that programme, or of one wanted more.
   pub no_seat_is_wasted : (prog : ℕ) (step : StepKind) (person : Person) → IsAmong person people → HasSeatLeft version table prog (seats_by got people) step

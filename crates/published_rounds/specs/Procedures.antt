@@ -1,6 +1,6 @@
 -- Rules of rounds: what gives seats to seekers, whatever it is.
 use Rattle.std.specs.Prelude.{◌≡◌, ◌≤◌, ℕ, List, Option, Some, slice_get}
-use Rattle.office_base.specs.declared.asks.Seat.{Seat}
+use Rattle.office_base.specs.declared.seat.Seat.{Seat}
 use Rattle.office_base.specs.declared.person.Person.{Person}
 use Rattle.allocations.specs.Compared.{TellsAnother}
 use Rattle.allocations.specs.Fair.{IsBest, IsFair, IsMarket}

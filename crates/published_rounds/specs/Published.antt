@@ -1,7 +1,8 @@
 -- A published round of a season, and the market that it answers.
 use Rattle.std.specs.Prelude.{◌≡◌, ◌≤◌, ◌==◌, ◌&&◌, ℕ, suc, Bool, false, List, Option, Some, None, count_by, length, slice_get}
+use Rattle.office_base.specs.SeatKinds.{seat_kind_number}
 use Rattle.office_base.specs.StepNumbers.{step_number}
-use Rattle.office_base.specs.declared.asks.Seat.{Seat}
+use Rattle.office_base.specs.declared.seat.Seat.{Seat}
 use Rattle.office_base.specs.declared.person.ProgId.{ProgId}
 use Rattle.office_base.specs.declared.step.StepKind.{StepKind}
 use Rattle.office_base.specs.declared.step.StepKind.TheVariants.{Dereserved}
@@ -12,7 +13,7 @@ use Rattle.seat_matrix.specs.Matrix.{SeatTable, seating_in}
 use Rattle.seat_matrix.specs.Seats.{is_dereserved}
 use Rattle.seat_matrix.specs.Unfilled.{left_unfilled}
 use Rattle.seeks.specs.Seek.{seek_leaves}
-use Rattle.rounds.specs.Rule.{rule_of, seekers_of}
+use Rattle.rounds.specs.Rule.{nobody, rule_of, seekers_of}
 use Rattle.rounds.specs.declared.round.Round.{Round}
 use Rattle.office_moves.specs.Facts.{IsSound, SeasonFacts, lists_in_order}
 use Rattle.office_moves.specs.History.{IsHistory}
@@ -42,7 +43,7 @@ market_then facts state window = seekers_of (matrix_then facts state window) fac
 -- these seats would be fair in that round
 abbrev pub AreFairThen : SeasonFacts → State → ℕ → List (Option Seat) → Type 0
 AreFairThen facts state window seats =
-    IsFair (rule_of facts.version (matrix_then facts state window)) (length (matrix_then facts state window).programmes) (market_then facts state window) seats
+    IsFair (rule_of facts.version nobody (matrix_then facts state window)) (length (matrix_then facts state window).programmes) (market_then facts state window) seats
 
 -- there is a seat, of the programme of this number or of one that the list names earlier
 abbrev pub IsThatOrEarlier : List ProgId → ℕ → Option Seat → Type 0
@@ -53,7 +54,7 @@ IsThatOrEarlier list prog seat = (own : Seat) × (seat ≡ Some own) × (place_o
 -- the seat is one of the programme of this number, under this step
 abbrev pub is_seat_under : ℕ → StepKind → Option Seat → Bool
 is_seat_under prog step None = false
-is_seat_under prog step (Some seat) = seat.prog.0 == prog && step_number seat.step == step_number step
+is_seat_under prog step (Some seat) = seat.prog.0 == prog && seat_kind_number seat.step == step_number step
 
 -- how many of some seats are of a step of a programme
 abbrev pub seats_under : ℕ → StepKind → List (Option Seat) → ℕ

@@ -1,7 +1,7 @@
 -- Two registers of the same people, compared by the order of merit alone.
 use Rattle.std.specs.Prelude.{◌≡◌, ◌≢◌, ◌≤◌, ◌⊎◌, ◌↔◌, ℕ, true, List, Option, Some, IsSome, length, slice_get}
 use Rattle.office_base.specs.Person.{IsBetter, is_common, number_in}
-use Rattle.office_base.specs.declared.asks.Seat.{Seat}
+use Rattle.office_base.specs.declared.seat.Seat.{Seat}
 use Rattle.office_base.specs.declared.person.Category.TheVariants.{Gen}
 use Rattle.office_base.specs.declared.person.ListId.{ListId}
 use Rattle.office_base.specs.declared.person.Person.{Person}
@@ -11,7 +11,7 @@ use Rattle.allocations.specs.Market.{Seeker, rank_of}
 use Rattle.programme_laws.specs.Laws.{HoldsEachTraitOf}
 use Rattle.seat_matrix.specs.Matrix.{AreSeats, SeatTable}
 use Rattle.seeks.specs.declared.seek.Seek.{Seek}
-use Rattle.rounds.specs.Rule.{AreEntrants, rule_of, seekers_of}
+use Rattle.rounds.specs.Rule.{AreEntrants, nobody, rule_of, seekers_of}
 use Rattle.rounds.specs.declared.round.Round.{Round}
 use Rattle.office_moves.specs.Facts.{SeasonFacts}
 use Rattle.office_moves.specs.Promise.{all_sought_then}
@@ -38,8 +38,8 @@ pub record AreInTheSameOrder (people others : List Person) : Type 0 where
 abbrev pub TheSameOrderGivesTheSameSeats : Type 0
 TheSameOrderGivesTheSameSeats = (version : ℕ) (table : SeatTable) (people others : List Person) (lists : List (List ProgId)) (seeks : List Seek) (seats : List (Option Seat)) → AreSeats table
     → AreEntrants table people lists → AreEntrants table others lists → AreInTheSameOrder people others
-    → IsBest (rule_of version table) (length table.programmes) (seekers_of table people lists seeks) seats
-    ↔ IsBest (rule_of version table) (length table.programmes) (seekers_of table others lists seeks) seats
+    → IsBest (rule_of version nobody table) (length table.programmes) (seekers_of table people lists seeks) seats
+    ↔ IsBest (rule_of version nobody table) (length table.programmes) (seekers_of table others lists seeks) seats
 
 -- ---- one person moves up
 
@@ -66,8 +66,8 @@ pub record OneMovesUp (i : ℕ) (before after : Person) (people others : List Pe
 abbrev pub MovingUpNeverHurts : Type 0
 MovingUpNeverHurts = (version : ℕ) (table : SeatTable) (people changed : List Person) (lists : List (List ProgId)) (seeks : List Seek) (seats others : List (Option Seat)) (i : ℕ)
     (before after : Person) (s : Seeker) (seat other : Option Seat) → AreSeats table → AreEntrants table people lists → AreEntrants table changed lists → OneMovesUp i before after people changed
-    → IsFair (rule_of version table) (length table.programmes) (seekers_of table people lists seeks) seats
-    → IsBest (rule_of version table) (length table.programmes) (seekers_of table changed lists seeks) others → slice_get (seekers_of table people lists seeks) i ≡ Some s
+    → IsFair (rule_of version nobody table) (length table.programmes) (seekers_of table people lists seeks) seats
+    → IsBest (rule_of version nobody table) (length table.programmes) (seekers_of table changed lists seeks) others → slice_get (seekers_of table people lists seeks) i ≡ Some s
     → slice_get seats i ≡ Some seat → slice_get others i ≡ Some other → rank_of s.list other ≤ rank_of s.list seat
 
 -- So in the rounds of two seasons that are the same but for the order, in which one candidate moves up: each publishes a round at this window, by the same matrix,

@@ -1,13 +1,13 @@
 -- The rule of the office next to other rules.
 use Rattle.std.specs.Prelude.{◌≡◌, ◌≤◌, ◌↔◌, ℕ, List, Option, Some, length, slice_get}
 use Rattle.office_base.specs.Lists.{IsAmong}
-use Rattle.office_base.specs.declared.asks.Seat.{Seat}
+use Rattle.office_base.specs.declared.seat.Seat.{Seat}
 use Rattle.office_base.specs.declared.person.Person.{Person}
 use Rattle.allocations.specs.Fair.{IsBest, IsFair, IsMarket}
 use Rattle.allocations.specs.Market.{Seeker, rank_of}
 use Rattle.seat_matrix.specs.Matrix.{AreSeats, SeatTable}
 use Rattle.rounds.specs.Round.{IsRound}
-use Rattle.rounds.specs.Rule.{MayApplyIn, rule_of}
+use Rattle.rounds.specs.Rule.{MayApplyIn, nobody, rule_of}
 use Rattle.rounds.specs.declared.round.Round.{Round}
 use Rattle.office_moves.specs.Facts.{SeasonFacts, lists_in_order}
 use Rattle.office_moves.specs.Promise.{all_sought_then}
@@ -21,27 +21,27 @@ use Rattle.published_rounds.specs.Procedures.{IsAlwaysBest, IsAlwaysFair, IsSafe
 -- (Alcalde and Barberà 1994; Aygün and Turhan for choices with reserves and de-reservation).
 abbrev pub FairAndSafeIsBest : Type 0
 FairAndSafeIsBest = (version : ℕ) (table : SeatTable) (gives : Procedure) → AreSeats table
-    → (IsAlwaysFair (rule_of version table) (MayApplyIn table) (length table.programmes) gives × IsSafe (MayApplyIn table) (length table.programmes) gives)
-    ↔ IsAlwaysBest (rule_of version table) (MayApplyIn table) (length table.programmes) gives
+    → (IsAlwaysFair (rule_of version nobody table) (MayApplyIn table) (length table.programmes) gives × IsSafe (MayApplyIn table) (length table.programmes) gives)
+    ↔ IsAlwaysBest (rule_of version nobody table) (MayApplyIn table) (length table.programmes) gives
 
 -- Whatever else gives fair seats for every market over the matrix of a published round, so that nobody gains by another list, gives for this market the round's seats.
 abbrev pub OnlyTheRoundIsSafe : SeasonFacts → Type 0
 OnlyTheRoundIsSafe facts = (entries : List Entry) (state : State) (window : ℕ) (round : Round) (gives : Procedure) → IsPublished facts entries state window round
-    → IsAlwaysFair (rule_of facts.version (matrix_then facts state window)) (MayApplyIn (matrix_then facts state window)) (length (matrix_then facts state window).programmes) gives
+    → IsAlwaysFair (rule_of facts.version nobody (matrix_then facts state window)) (MayApplyIn (matrix_then facts state window)) (length (matrix_then facts state window).programmes) gives
     → IsSafe (MayApplyIn (matrix_then facts state window)) (length (matrix_then facts state window).programmes) gives → gives (market_then facts state window) ≡ round.seats
 
 -- Version 2 hurts nobody. It de-reserves the empty seats of EWS too, and not those of OBC alone.
 -- With all else the same, its best fair seats give nobody a later place of their list than any fair seats in another version. This includes members of EWS and OBC.
 abbrev pub VersionTwoHurtsNobody : Type 0
 VersionTwoHurtsNobody = (version : ℕ) (table : SeatTable) (seekers : List Seeker) (seats others : List (Option Seat)) (i : ℕ) (s : Seeker) (seat other : Option Seat) → AreSeats table
-    → IsMarket (MayApplyIn table) (length table.programmes) seekers → IsFair (rule_of version table) (length table.programmes) seekers seats
-    → IsBest (rule_of 2 table) (length table.programmes) seekers others → slice_get seekers i ≡ Some s → slice_get seats i ≡ Some seat → slice_get others i ≡ Some other
+    → IsMarket (MayApplyIn table) (length table.programmes) seekers → IsFair (rule_of version nobody table) (length table.programmes) seekers seats
+    → IsBest (rule_of 2 nobody table) (length table.programmes) seekers others → slice_get seekers i ≡ Some s → slice_get seats i ≡ Some seat → slice_get others i ≡ Some other
     → rank_of s.list other ≤ rank_of s.list seat
 
 -- So next to a published round: the round in version 2, of the same matrix and of what the same people sought, gives nobody a seat that they sought less.
 abbrev pub VersionTwoWouldHurtNobody : SeasonFacts → Type 0
 VersionTwoWouldHurtNobody facts = (entries : List Entry) (state : State) (window number : ℕ) (round other : Round) (person : Person) → IsPublished facts entries state window round
-    → IsRound 2 (matrix_then facts state window) facts.people (lists_in_order facts) number (all_sought_then facts state window) other → IsAmong person facts.people
+    → IsRound 2 nobody (matrix_then facts state window) facts.people (lists_in_order facts) number (all_sought_then facts state window) other → IsAmong person facts.people
     → rank_of (wanted_then facts state window person.id.0) (seat_of facts (Some other) person.id.0)
     ≤ rank_of (wanted_then facts state window person.id.0) (seat_of facts (Some round) person.id.0)
 
@@ -50,7 +50,7 @@ VersionTwoWouldHurtNobody facts = (entries : List Entry) (state : State) (window
 abbrev pub DereservationHurtsNobody : Type 0
 DereservationHurtsNobody = (version : ℕ) (table : SeatTable) (seekers : List Seeker) (seats others : List (Option Seat)) (i : ℕ) (s : Seeker) (seat other : Option Seat) → AreSeats table
     → IsMarket (MayApplyIn table) (length table.programmes) seekers → IsFair (rule_of_own_steps table) (length table.programmes) seekers seats
-    → IsBest (rule_of version table) (length table.programmes) seekers others → slice_get seekers i ≡ Some s → slice_get seats i ≡ Some seat → slice_get others i ≡ Some other
+    → IsBest (rule_of version nobody table) (length table.programmes) seekers others → slice_get seekers i ≡ Some s → slice_get seats i ≡ Some seat → slice_get others i ≡ Some other
     → rank_of s.list other ≤ rank_of s.list seat
 
 -- So next to a published round: no seats that would have been fair without the de-reserved step give anybody a seat that they sought more.

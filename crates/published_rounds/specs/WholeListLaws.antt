@@ -5,7 +5,7 @@ use Rattle.office_base.specs.declared.person.Person.{Person}
 use Rattle.allocations.specs.Fair.{IsBest}
 use Rattle.seeks.specs.declared.seek.Seek.{Seek}
 use Rattle.seeks.specs.declared.seek.Seek.TheVariants.{Whole, Nothing}
-use Rattle.rounds.specs.Rule.{rule_of, seekers_of}
+use Rattle.rounds.specs.Rule.{nobody, rule_of, seekers_of}
 use Rattle.rounds.specs.declared.round.Round.{Round}
 use Rattle.round_options.specs.declared.standing.Standing.{Standing}
 use Rattle.round_options.specs.declared.standing.Standing.TheVariants.{Waiting, Offered, Freeze, Float, Slide, Withdrawn, NoShow}
@@ -38,5 +38,5 @@ EverybodyFloats facts state window = (earlier : ℕ) (person : Person) → earli
 -- its cut. Nothing else of the earlier rounds is seen in it.
 abbrev pub RoundsLeaveNoTrace : SeasonFacts → Type 0
 RoundsLeaveNoTrace facts = (entries : List Entry) (state : State) (window : ℕ) (round : Round) → IsPublished facts entries state window round → EverybodyFloats facts state window
-    → IsBest (rule_of facts.version (matrix_then facts state window)) (length (matrix_then facts state window).programmes)
+    → IsBest (rule_of facts.version nobody (matrix_then facts state window)) (length (matrix_then facts state window).programmes)
     (seekers_of (matrix_then facts state window) facts.people (lists_in_order facts) (all_whole_then facts state window)) round.seats

@@ -7,7 +7,7 @@ ghost use Rattle.office_moves.specs.Facts.{SeasonFacts};
 ghost use Rattle.published_rounds.specs.Laws.{MoreSeatsHurtNobody, NoOtherListGivesMore, NobodyIsEnvied, SameAreSeated, SeatsAreWithin};
 ghost use Rattle.published_rounds.specs.WholeListLaws.{RoundsLeaveNoTrace};
 ghost use Rattle.published_rounds.specs.CutoffLaws.{LaterCutoffsAreWider, RefusalsAreOutside, SeatsAreTheFirst, WithinCutoffsIsSeated};
-ghost use Rattle.published_rounds.specs.FairLaws.{ClosingPlacesDecide, FewNewHolders, FewNewlySeated, NoSeatIsWasted, NoVacancyFillsByItself, NobodyIsEnviedWhereFair, RoundsAreFair, SeatsAreWithinWhereFair};
+ghost use Rattle.published_rounds.specs.FairLaws.{ClosingPlacesDecide, FewNewHolders, FewNewlySeated, NoSeatIsWasted, NoVacancyFillsByItself, NobodyIsEnviedWhereFair, NobodyIsKeptWhereFair, RoundsAreFair, SeatsAreWithinWhereFair};
 ghost use Rattle.published_rounds.specs.People.{FairSeatsAreJustified, PublishedRoundsAreJustified};
 ghost use Rattle.published_rounds.specs.FairThen.{ClosingPlacesDecideThen, FewNewHoldersThen, FewNewlySeatedThen, NoSeatIsWastedThen, NoVacancyFillsByItselfThen};
 ghost use Rattle.published_rounds.specs.GroupLaws.{NoGroupGainsInARound, NoGroupWouldGain};
@@ -145,6 +145,15 @@ pub fn nobody_is_envied_where_fair()
     programme_laws::laws::nobody_is_passed_over();
 }
 
+/// Where seats are fair and nobody is guaranteed one, each is under a step.
+pub fn nobody_is_kept_where_fair()
+    ensures { NobodyIsKeptWhereFair }
+{
+    round_laws::laws::choose_well();
+    open_then_category::laws::programme_choice_exists();
+    open_then_category::laws::one_programme_choice();
+}
+
 /// Where seats are fair, no step of a programme gives more seats than it has.
 pub fn seats_are_within_where_fair()
     ensures { SeatsAreWithinWhereFair }
@@ -259,12 +268,13 @@ pub fn few_newly_seated_then()
     few_newly_seated();
 }
 
-/// Fair seats can be justified to each person: nobody is envied, no seat is wasted, steps keep within their seats, and
+/// Fair seats can be justified to each person: nobody is envied or kept, no seat is wasted, steps keep within their seats, and
 /// closing places decide.
 pub fn fair_seats_are_justified()
     ensures { FairSeatsAreJustified }
 {
     nobody_is_envied_where_fair();
+    nobody_is_kept_where_fair();
     no_seat_is_wasted();
     seats_are_within_where_fair();
     closing_places_decide();

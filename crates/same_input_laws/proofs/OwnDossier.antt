@@ -15,7 +15,7 @@ use Rattle.seat_matrix.specs.Matrix.{SeatTable, seats_in}
 use Rattle.season_file.specs.declared.season.Season.{Season}
 use Rattle.programme_lists.specs.declared.programme.Programme.{Programme}
 use Rattle.programme_lists.specs.declared.programme.StepList.{StepList}
-use Rattle.rounds.specs.Rule.{MayApplyIn, rule_of, seekers_of}
+use Rattle.rounds.specs.Rule.{MayApplyIn, nobody, rule_of, seekers_of}
 use Rattle.rounds.specs.declared.round.Round.{Round}
 use Rattle.rounds.proofs.Entrants.{market}
 use Rattle.office_moves.specs.Facts.{IsSound, SeasonFacts, lists_in_order}
@@ -82,8 +82,8 @@ module _ (laws : Laws) (facts : SeasonFacts) (sound : IsSound facts) (state : St
         let below : p < length table.programmes = omega (arith, less, size) in
         let seats = orderly.course.seats (suc i) in
         let may =
-        applicants_may (rule_of facts.version table) (MayApplyIn table) (length table.programmes) p seekers round.seats
-        (market table facts.people (lists_in_order facts) round.seeks seats (entrants facts table sound (orderly.course.programmes (suc i)))) (laws.well facts.version table seats) below
+        applicants_may (rule_of facts.version nobody table) (MayApplyIn table) (length table.programmes) p seekers round.seats
+        (market table facts.people (lists_in_order facts) round.seeks seats (entrants facts table sound (orderly.course.programmes (suc i)))) (laws.well facts.version nobody table seats) below
         just.best.fair.allocation.full in
         shown.named_once laws.size laws.ranks laws.axioms facts.version (seats_in table p) (applicants p seekers round.seats) programme (seats.sound p below) may (just.shown p programme at)
 

@@ -3,14 +3,15 @@ use Rattle.std.proofs.Common.{◌≡◌, ◌<◌, ◌+◌, ◌*◌, ◌++◌, �
 use Rattle.std.specs.Prelude.{option_map, slice_get}
 use Rattle.std.specs.List.{AllByRecursion, flat_map}
 use Rattle.std.specs.Option.{option_and_then, unwrap_or}
-use Rattle.std.proofs.lemmas.Bool.{eq-eqb, ne_eqb}
+use Rattle.std.proofs.lemmas.Bool.{eq-eqb, false≢true, ne_eqb}
 use Rattle.std.proofs.lemmas.List.{length-append, length-map}
 use Rattle.std.proofs.lemmas.Option.{same_Some, slice_get_within}
 use Rattle.office_base.proofs.Lists.{all-get, get-after, get-before, there_is}
 use Rattle.office_base.proofs.People.{at_person-get}
 use Rattle.office_base.specs.Lists.{IsAmong, Pairwise}
 use Rattle.office_base.specs.declared.asks.Request.{Request}
-use Rattle.office_base.specs.declared.asks.Seat.{Seat}
+use Rattle.office_base.specs.declared.seat.Seat.{Seat}
+use Rattle.office_base.specs.declared.seat.SeatKind.TheVariants.{Kept, Under}
 use Rattle.office_base.specs.declared.person.Person.{Person}
 use Rattle.office_base.specs.declared.person.ProgId.{ProgId}
 use Rattle.office_base.specs.declared.step.StepKind.{StepKind}
@@ -27,7 +28,7 @@ use Rattle.programme_lists.specs.Chosen.{ShowsFrom}
 use Rattle.programme_lists.specs.Programme.{Admissions, admitted_by}
 use Rattle.programme_lists.specs.declared.programme.Programme.{Programme}
 use Rattle.seat_matrix.specs.Matrix.{seats_in}
-use Rattle.rounds.specs.Rule.{MayApplyIn, ProgrammesChooseWell, rule_of}
+use Rattle.rounds.specs.Rule.{MayApplyIn, ProgrammesChooseWell, nobody, rule_of}
 use Rattle.rounds.specs.declared.round.Round.{Round}
 use Rattle.rounds.proofs.Entrants.{market}
 use Rattle.round_laws.proofs.OneRound.{same_places}
@@ -263,29 +264,38 @@ module _ (laws : Laws) (facts : SeasonFacts) (sound : IsSound facts) (papers : P
 
     may : MayApplyIn (matrix_at facts old) p people
     may =
-        applicants_may (rule_of facts.version (matrix_at facts old)) (MayApplyIn (matrix_at facts old)) (length (matrix_at facts old).programmes) p seekers round.seats
+        applicants_may (rule_of facts.version nobody (matrix_at facts old)) (MayApplyIn (matrix_at facts old)) (length (matrix_at facts old).programmes) p seekers round.seats
         (market (matrix_at facts old) facts.people (lists_in_order facts) (next_seeks facts old) orderly.seats (entrants facts (matrix_at facts old) sound orderly.programmes))
-        (laws.well facts.version (matrix_at facts old) orderly.seats) below next.best.fair.allocation.full
+        (laws.well facts.version nobody (matrix_at facts old) orderly.seats) below next.best.fair.allocation.full
 
     names : (kind : StepKind) → (list_of_step programme kind).admitted ≡ admitted_by shows.0 kind
     names kind = (shown.its laws.size laws.ranks laws.axioms facts.version (seats_in (matrix_at facts old) p) people programme (orderly.seats.sound p below) may shows kind).persons
 
     agree : (i : ℕ) (person : Person) → slice_get facts.people i ≡ Some person → Agree papers old p programme person
-    agree i person at kind =
+    agree i person at Kept = (
+      (λ named. absurd (false≢true named)),
+      (λ has.
+          let seat = seat_here i person at in
+          let s = seeker_here i person at in
+          let told = given i person seat.0 at seat.1 in
+          let keeps = (next.best.fair.agrees p i s.0 Kept below s.1).1 (seat.1 ∙ ap (λ (o : Option Seat). Some o) (sym told ∙ has)) in
+          absurd (false≢true keeps.guaranteed_there)),
+    )
+    agree i person at (Under kind) =
         let seat = seat_here i person at in
         let s = seeker_here i person at in
         let told = given i person seat.0 at seat.1 in
-        let fair = next.best.fair.agrees p i s.0 kind below s.1 in (
+        let fair = next.best.fair.agrees p i s.0 (Under kind) below s.1 in (
           λ named.
               let who = somebody_named person.id.0 (admitted_by shows.0 kind) (subst (λ (l : List Person). is_named person.id.0 l ≡ true) (names kind) named) in
-              let applied = (laws.well facts.version (matrix_at facts old) orderly.seats).among p people who.0 kind may (shows.0, shows.1, who.1) in
+              let applied = (laws.well facts.version nobody (matrix_at facts old) orderly.seats).among p people who.0 (Under kind) may (shows.0, shows.1, who.1) in
               let found = of_those (λ (t : Seeker) (o : Option Seat). applies p t.list o) seekers round.seats who.0 applied in
               let entry = enters facts old found.place found.s sound found.there in
               let place = one_row facts.people i found.place person found.s.person sound.ranks.rising at entry.person_at (sym who.2 ∙ ap (λ (q : Person). q.id.0) found.person_is) in
               let same : person ≡ found.s.person = same_Some person found.s.person (sym at ∙ (ap (λ (n : ℕ). slice_get facts.people n) place ∙ entry.person_at)) in
               let is : who.0 ≡ s.0.person = found.person_is ∙ (sym same ∙ sym s.2) in
               let has = fair.0 (shows.0, shows.1, subst (λ (q : Person). IsAmong q (admitted_by shows.0 kind)) is who.1) in
-              told ∙ same_Some seat.0 (Some (seat_at p kind)) (sym seat.1 ∙ has),
+              told ∙ same_Some seat.0 (Some (seat_at p (Under kind))) (sym seat.1 ∙ has),
           λ has.
               let rule = fair.1 (seat.1 ∙ ap (λ (o : Option Seat). Some o) (sym told ∙ has)) in
               let one = laws.one facts.version (seats_in (matrix_at facts old) p) people rule.0 shows.0 (orderly.seats.sound p below) may rule.1 shows.1 in
@@ -311,8 +321,8 @@ module _ (laws : Laws) (facts : SeasonFacts) (sound : IsSound facts) (papers : P
   -- And the round is the best one.
   best_cut : IsBestCut facts papers old
   best_cut =
-      subst (λ (seats : List (Option Seat)). IsBest (rule_of facts.version (matrix_at facts old)) (length facts.matrix.programmes) seekers seats) (sym seats_same)
-      (subst (λ (n : ℕ). IsBest (rule_of facts.version (matrix_at facts old)) n seekers round.seats) (ap (λ l. length l) orderly.programmes) next.best)
+      subst (λ (seats : List (Option Seat)). IsBest (rule_of facts.version nobody (matrix_at facts old)) (length facts.matrix.programmes) seekers seats) (sym seats_same)
+      (subst (λ (n : ℕ). IsBest (rule_of facts.version nobody (matrix_at facts old)) n seekers round.seats) (ap (λ l. length l) orderly.programmes) next.best)
 
 -- ---- each request
 

@@ -9,13 +9,13 @@ use Rattle.office_base.proofs.Lists.{get-after, there_is}
 use Rattle.office_base.specs.declared.asks.Ask.{Ask}
 use Rattle.office_base.specs.declared.asks.By.{By}
 use Rattle.office_base.specs.declared.asks.Request.{Request}
-use Rattle.office_base.specs.declared.asks.Seat.{Seat}
+use Rattle.office_base.specs.declared.seat.Seat.{Seat}
 use Rattle.kept_rows.specs.declared.rows.AllotRow.{AllotRow}
 use Rattle.seat_matrix.specs.Matrix.{SeatTable}
 use Rattle.seeks.specs.declared.seek.Seek.{Seek}
 use Rattle.allocations.specs.Fair.{IsBest}
 use Rattle.allocations.proofs.Claims.{one_best}
-use Rattle.rounds.specs.Rule.{MayApplyIn, ProgrammesChooseWell, rule_of, seekers_of}
+use Rattle.rounds.specs.Rule.{MayApplyIn, ProgrammesChooseWell, nobody, rule_of, seekers_of}
 use Rattle.rounds.specs.declared.round.Round.{Round}
 use Rattle.rounds.proofs.Entrants.{market}
 use Rattle.office_moves.specs.Decided.{decided, decided_by}
@@ -83,7 +83,7 @@ module _ (facts : SeasonFacts) (sound : IsSound facts) (papers : Papers) (well :
 
     module _ (orderly : IsOrderly facts old) (round : Round) (next : IsNextRound facts old round) (best : IsBestCut facts papers rep) where
       abbrev IsBestBy : SeatTable → ℕ → List Seek → List (Option Seat) → Type 0
-      IsBestBy table count seeks seats = IsBest (rule_of facts.version table) count (seekers_of table facts.people (lists_in_order facts) seeks) seats
+      IsBestBy table count seeks seats = IsBest (rule_of facts.version nobody table) count (seekers_of table facts.people (lists_in_order facts) seeks) seats
 
       -- the seats of the text are the office's
       same_seats : seats_given facts papers rep ≡ round.seats
@@ -91,10 +91,10 @@ module _ (facts : SeasonFacts) (sound : IsSound facts) (papers : Papers) (well :
           let by_matrix = subst (λ (m : SeatTable). IsBestBy m (length facts.matrix.programmes) (next_seeks facts rep) (seats_given facts papers rep)) matrix_same best in
           let by_seeks = subst (λ (q : List Seek). IsBestBy (matrix_at facts old) (length facts.matrix.programmes) q (seats_given facts papers rep)) (alike_seeks facts rep old alike) by_matrix in
           let by_count = subst (λ (n : ℕ). IsBestBy (matrix_at facts old) n (next_seeks facts old) (seats_given facts papers rep)) (sym (ap (λ l. length l) orderly.programmes)) by_seeks in
-          one_best (rule_of facts.version (matrix_at facts old)) (MayApplyIn (matrix_at facts old)) (length (matrix_at facts old).programmes)
+          one_best (rule_of facts.version nobody (matrix_at facts old)) (MayApplyIn (matrix_at facts old)) (length (matrix_at facts old).programmes)
           (seekers_of (matrix_at facts old) facts.people (lists_in_order facts) (next_seeks facts old)) (seats_given facts papers rep) round.seats
           (market (matrix_at facts old) facts.people (lists_in_order facts) (next_seeks facts old) orderly.seats (entrants facts (matrix_at facts old) sound orderly.programmes))
-          (well facts.version (matrix_at facts old) orderly.seats) by_count next.best
+          (well facts.version nobody (matrix_at facts old) orderly.seats) by_count next.best
 
       same_round : bare_round (round_of facts papers rep) ≡ bare_round round
       same_round = λ i. record {

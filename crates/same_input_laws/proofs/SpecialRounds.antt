@@ -17,7 +17,7 @@ use Rattle.list_cutoffs.specs.declared.cutoffs.StepCutoff.{StepCutoff}
 use Rattle.choice_lists.specs.Choices.{IsRead}
 use Rattle.choice_lists.specs.Laws.{HaveOneReading}
 use Rattle.rounds.specs.Round.{IsRound, seated}
-use Rattle.rounds.specs.Rule.{AreEntrants}
+use Rattle.rounds.specs.Rule.{AreEntrants, nobody}
 use Rattle.rounds.specs.declared.round.Round.{Round}
 use Rattle.round_laws.specs.Laws.{Enter, OneRound, lists_in}
 use Rattle.office_moves.specs.Facts.{IsSound, SeasonFacts, register_of}
@@ -41,7 +41,7 @@ pub record IsMade (facts : SeasonFacts) (table : SeatTable) (rows : List AllotRo
   pub matrix : IsRemaining facts.people rows table special.season.matrix
   pub lists : IsRead (register_of facts) facts.matrix (rows_of body) special.season.choices
   pub vacant : special.vacant ≡ total_seats table - length rows
-  pub round : IsRound facts.version special.season.matrix facts.people (lists_in special.season.choices) 1 (all_whole facts.people) special.round
+  pub round : IsRound facts.version nobody special.season.matrix facts.people (lists_in special.season.choices) 1 (all_whole facts.people) special.round
   pub sound : IsSound (facts_of special.season)
 
 pub made : (facts : SeasonFacts) (table : SeatTable) (rows : List AllotRow) (body : List ℕ) (special : Special) → IsSound facts → IsSpecialOver facts table rows body special
@@ -80,12 +80,12 @@ alike remaining reading enter one facts table rows body special other rising fir
     let b = other.season in
     let matrix : a.matrix ≡ b.matrix = remaining people rows table a.matrix b.matrix rising first.sound.seats second.sound.seats first.matrix second.matrix in
     let lists = ap lists_in ((reading (register_of facts) facts.matrix (rows_of body)).one_value a.choices b.choices first.lists second.lists) in
-    let by_matrix = subst (λ (t : SeatTable). IsRound facts.version t people (lists_in b.choices) 1 (all_whole people) other.round) (sym matrix) second.round in
-    let by_lists = subst (λ (l : List (List ProgId)). IsRound facts.version a.matrix people l 1 (all_whole people) other.round) (sym lists) by_matrix in
+    let by_matrix = subst (λ (t : SeatTable). IsRound facts.version nobody t people (lists_in b.choices) 1 (all_whole people) other.round) (sym matrix) second.round in
+    let by_lists = subst (λ (l : List (List ProgId)). IsRound facts.version nobody a.matrix people l 1 (all_whole people) other.round) (sym lists) by_matrix in
     let entrants = entrants_of enter facts table rows body special first in
     record {
       matrix = matrix;
-      round = one facts.version 1 a.matrix people (lists_in a.choices) (all_whole people) special.round other.round first.sound.seats entrants first.round by_lists;
+      round = one facts.version 1 nobody a.matrix people (lists_in a.choices) (all_whole people) special.round other.round first.sound.seats entrants first.round by_lists;
       vacant = first.vacant ∙ sym second.vacant;
       register = first.people ∙ sym second.people;
     }

@@ -2,7 +2,7 @@
 use Rattle.std.proofs.Common.{◌≡◌, ◌≢◌, ◌<◌, ◌≤◌, ◌+◌, inl, inr, ℕ, zero, suc, Bool, List, [], ◌∷◌, ◌++◌, Option, Some, None, length, map, arith, refl, sym, ap, ◌∙◌, subst, ◌==◌, if◌then◌else◌, append_assoc, append-nil}
 use Rattle.std.specs.Prelude.{slice_get, option_map}
 use Rattle.std.proofs.lemmas.Bool.{cases_lt, cases_order, eq-eqb, ne_eqb}
-use Rattle.office_base.specs.declared.asks.Seat.{Seat}
+use Rattle.office_base.specs.declared.seat.Seat.{Seat}
 use Rattle.office_base.specs.declared.person.Person.{Person}
 use Rattle.office_base.proofs.Lists.{there_is}
 use Rattle.office_base.proofs.Options.{some_value}
@@ -14,6 +14,7 @@ use Rattle.choice_lists.specs.Choices.{list_of}
 use Rattle.seat_matrix.specs.Matrix.{AreSeats, SeatTable}
 use Rattle.seeks.specs.declared.seek.Seek.{Seek}
 use Rattle.rounds.specs.Round.{IsRound}
+use Rattle.rounds.specs.Rule.{nobody}
 use Rattle.rounds.specs.declared.round.Round.{Round}
 use Rattle.round_options.specs.Options.{after_cut, holds, seek_after}
 use Rattle.round_options.specs.declared.standing.Standing.{Standing}
@@ -208,7 +209,7 @@ same_states facts entries others state other reached reached' h =
 module _ (facts : SeasonFacts) (state other : State) (sound : IsSound facts) (orderly : IsOrderly facts state) (orderly' : IsOrderly facts other) (h : IsSameByWindow state other)
     (matrices : (n : ℕ) → matrix_of_round facts other n ≡ matrix_of_round facts state n)
     (one_round : (table : SeatTable) (n : ℕ) (seeks : List Seek) (first second : Round) → AreSeats table → table.programmes ≡ facts.matrix.programmes
-    → IsRound facts.version table facts.people (lists_in_order facts) n seeks first → IsRound facts.version table facts.people (lists_in_order facts) n seeks second → first ≡ second) where
+    → IsRound facts.version nobody table facts.people (lists_in_order facts) n seeks first → IsRound facts.version nobody table facts.people (lists_in_order facts) n seeks second → first ≡ second) where
   -- the first rounds, so many, are the same
   abbrev AreSameUpTo : ℕ → Type 0
   AreSameUpTo n = (m : ℕ) → m < n → slice_get other.rounds m ≡ slice_get state.rounds m
@@ -254,9 +255,9 @@ module _ (facts : SeasonFacts) (state other : State) (sound : IsSound facts) (or
       let second = there_is other.rounds n (omega (arith, less, many)) in
       let table = matrix_of_round facts state (suc n) in
       let made = orderly.course.made n first.0 first.1 in
-      let made' = subst (λ (t : SeatTable). IsRound facts.version t facts.people (lists_in_order facts) (n + 1) (seeks_then facts other n) second.0) (matrices (suc n))
+      let made' = subst (λ (t : SeatTable). IsRound facts.version nobody t facts.people (lists_in_order facts) (n + 1) (seeks_then facts other n) second.0) (matrices (suc n))
       (orderly'.course.made n second.0 second.1) in
-      let again = subst (λ (z : List Seek). IsRound facts.version table facts.people (lists_in_order facts) (n + 1) z second.0) (seeks_same n up) made' in
+      let again = subst (λ (z : List Seek). IsRound facts.version nobody table facts.people (lists_in_order facts) (n + 1) z second.0) (seeks_same n up) made' in
       let same = one_round table (n + 1) (seeks_then facts state n) second.0 first.0 (orderly.course.seats (suc n)) (orderly.course.programmes (suc n)) again made in
       second.1 ∙ (ap (λ (r : Round). Some r) same ∙ sym first.1)
 
@@ -304,7 +305,7 @@ module _ (facts : SeasonFacts) (state other : State) (sound : IsSound facts) (or
 
 pub order_within_windows_is_free : ((facts : SeasonFacts) (entries : List Entry) (state : State) → IsSound facts → Reaches facts opening entries state → IsOrderly facts state)
     → ((facts : SeasonFacts) (table : SeatTable) (n : ℕ) (seeks : List Seek) (first second : Round) → IsSound facts → AreSeats table → table.programmes ≡ facts.matrix.programmes
-    → IsRound facts.version table facts.people (lists_in_order facts) n seeks first → IsRound facts.version table facts.people (lists_in_order facts) n seeks second → first ≡ second)
+    → IsRound facts.version nobody table facts.people (lists_in_order facts) n seeks first → IsRound facts.version nobody table facts.people (lists_in_order facts) n seeks second → first ≡ second)
     → (facts : SeasonFacts) → OrderWithinWindowsIsFree facts
 order_within_windows_is_free orderly one_round facts entries others state other sound history history' alike =
     let h = same_states facts entries others state other history.reached history'.reached alike in
@@ -313,6 +314,6 @@ order_within_windows_is_free orderly one_round facts entries others state other 
     let before = same_before state.now other.now state.raises other.raises (raises_in_order facts entries state history.reached) (raises_in_order facts others other history'.reached) h.raises in
     let matrices : (n : ℕ) → matrix_of_round facts other n ≡ matrix_of_round facts state n = λ n. ap (λ (z : List RaiseRow). raised facts.matrix z) (before n) in
     let one : (table : SeatTable) (n : ℕ) (seeks : List Seek) (a b : Round) → AreSeats table → table.programmes ≡ facts.matrix.programmes
-    → IsRound facts.version table facts.people (lists_in_order facts) n seeks a → IsRound facts.version table facts.people (lists_in_order facts) n seeks b → a ≡ b =
+    → IsRound facts.version nobody table facts.people (lists_in_order facts) n seeks a → IsRound facts.version nobody table facts.people (lists_in_order facts) n seeks b → a ≡ b =
     λ table n seeks a b seats same x y. one_round facts table n seeks a b sound seats same x y in
     same facts state other sound first second h matrices one

@@ -5,7 +5,7 @@ use Rattle.std.proofs.lemmas.Bool.{cases_Bool, eqb-false, eqb-true}
 use Rattle.office_base.specs.Numbered.{rises}
 use Rattle.office_base.specs.declared.asks.By.{By}
 use Rattle.office_base.specs.declared.asks.By.TheVariants.{Clerk}
-use Rattle.office_base.specs.declared.asks.Seat.{Seat}
+use Rattle.office_base.specs.declared.seat.Seat.{Seat}
 use Rattle.office_base.specs.declared.person.Person.{Person}
 use Rattle.office_base.specs.declared.step.StepKind.{StepKind}
 use Rattle.kept_rows.specs.declared.rows.AllotRow.{AllotRow}
@@ -15,6 +15,7 @@ use Rattle.allocations.specs.Market.{place_of}
 use Rattle.choice_lists.specs.Choices.{list_of}
 use Rattle.seeks.specs.declared.seek.Seek.{Seek}
 use Rattle.rounds.specs.Round.{IsRound, seated}
+use Rattle.rounds.specs.Rule.{nobody}
 use Rattle.rounds.specs.declared.round.Round.{Round}
 use Rattle.round_options.specs.Options.{holds, seek_after}
 use Rattle.office_moves.specs.Facts.{SeasonFacts, code_in, lists_in_order}
@@ -68,9 +69,9 @@ module _ (facts : SeasonFacts) (state other : State) (alike : AreAlike state oth
 
   round_same : (round : Round) → IsNextRound facts state round → IsNextRound facts other round
   round_same round next =
-      subst (λ (q : List Seek). IsRound facts.version (matrix_at facts other) facts.people (lists_in_order facts) (other.now + 1) q round) (sym next_same)
-      (subst (λ (n : ℕ). IsRound facts.version (matrix_at facts other) facts.people (lists_in_order facts) (n + 1) (next_seeks facts state) round) (sym alike.now)
-      (subst (λ (r : List RaiseRow). IsRound facts.version (raised facts.matrix r) facts.people (lists_in_order facts) (state.now + 1) (next_seeks facts state) round) (sym alike.raises) next))
+      subst (λ (q : List Seek). IsRound facts.version nobody (matrix_at facts other) facts.people (lists_in_order facts) (other.now + 1) q round) (sym next_same)
+      (subst (λ (n : ℕ). IsRound facts.version nobody (matrix_at facts other) facts.people (lists_in_order facts) (n + 1) (next_seeks facts state) round) (sym alike.now)
+      (subst (λ (r : List RaiseRow). IsRound facts.version nobody (raised facts.matrix r) facts.people (lists_in_order facts) (state.now + 1) (next_seeks facts state) round) (sym alike.raises) next))
 
   -- what a newly accepting decision does
   does_alike : (decision : Decision) (act : Act) (reply : Reply) (after : State) → newly state.now decision ≡ Some act → Does facts state decision reply after

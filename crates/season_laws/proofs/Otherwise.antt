@@ -5,7 +5,7 @@ use Rattle.std.specs.Option.{option_and_then}
 use Rattle.std.proofs.lemmas.List.{length-map}
 use Rattle.std.proofs.lemmas.Option.{slice_get_within}
 use Rattle.office_base.proofs.People.{at_person-get}
-use Rattle.office_base.specs.declared.asks.Seat.{Seat}
+use Rattle.office_base.specs.declared.seat.Seat.{Seat}
 use Rattle.office_base.specs.declared.person.Person.{Person}
 use Rattle.office_base.proofs.Lists.{there_is}
 use Rattle.office_base.proofs.Options.{some_value}
@@ -16,7 +16,7 @@ use Rattle.seat_matrix.specs.Matrix.{SeatTable}
 use Rattle.seeks.specs.Seek.{seek_leaves}
 use Rattle.seeks.specs.declared.seek.Seek.{Seek}
 use Rattle.seeks.specs.declared.seek.Seek.TheVariants.{UpTo}
-use Rattle.rounds.specs.Rule.{rule_of, seekers_of}
+use Rattle.rounds.specs.Rule.{nobody, rule_of, seekers_of}
 use Rattle.rounds.specs.declared.round.Round.{Round}
 use Rattle.rounds.proofs.Entrants.{length_seekers}
 use Rattle.round_options.specs.Options.{after_cut, holds, seek_after}
@@ -137,10 +137,10 @@ module _ (wider : WiderIsNoWorse) (facts : SeasonFacts) (state other : State) (f
   full' = length_seekers table facts.people (lists_in_order facts) (next_seeks facts other) (lists_full facts sound)
       (length-map facts.people (λ (q : Person). next_seek facts other q.id.0) ∙ sym (lists_full facts sound))
 
-  fair : IsFair (rule_of facts.version table) (length table.programmes) (seekers_of table facts.people (lists_in_order facts) (next_seeks facts other)) second.seats
+  fair : IsFair (rule_of facts.version nobody table) (length table.programmes) (seekers_of table facts.people (lists_in_order facts) (next_seeks facts other)) second.seats
   fair =
       let same : matrix_at facts other ≡ matrix_at facts state = ap (raised facts.matrix) h.raises in
-      subst (λ (t : SeatTable). IsFair (rule_of facts.version t) (length t.programmes) (seekers_of t facts.people (lists_in_order facts) (next_seeks facts other)) second.seats) same next'.best.fair
+      subst (λ (t : SeatTable). IsFair (rule_of facts.version nobody t) (length t.programmes) (seekers_of t facts.people (lists_in_order facts) (next_seeks facts other)) second.seats) same next'.best.fair
 
   pub no_worse : rank_of (list_of facts.lists person.id.0) (seat_of facts (Some first) person.id.0) ≤ rank_of (list_of facts.lists person.id.0) (seat_of facts (Some second) person.id.0)
   no_worse =
@@ -158,7 +158,7 @@ module _ (wider : WiderIsNoWorse) (facts : SeasonFacts) (state other : State) (f
       let sought' = map_at (λ (q : Person). next_seek facts other q.id.0) facts.people i person there in
       let given = seat_at facts first i person x.0 sound there x.1 in
       let given' = seat_at facts second i person y.0 sound there y.1 in
-      let result = wider facts.version table facts.people (lists_in_order facts) (next_seeks facts state) (next_seeks facts other) first.seats second.seats i k list.0
+      let result = wider facts.version nobody table facts.people (lists_in_order facts) (next_seeks facts state) (next_seeks facts other) first.seats second.seats i k list.0
       (next_seek facts other person.id.0) x.0 y.0 orderly.seats (entrants facts table sound orderly.programmes) otherwise list.1 sought sought' up next.best fair x.1 y.1 in
       let by_list = subst (λ l. rank_of l x.0 ≤ rank_of l y.0) (sym own) result in
       let by_first = subst (λ z. rank_of (list_of facts.lists person.id.0) z ≤ rank_of (list_of facts.lists person.id.0) y.0) (sym given) by_list in
@@ -185,7 +185,7 @@ pub raises_hurt_nobody : MoreSeatsHurtNobody → (facts : SeasonFacts) → Raise
 raises_hurt_nobody more_seats facts state other first second i person sound orderly orderly' h raised next next' there =
     let table = matrix_at facts state in
     let seeks = next_seeks facts state in
-    let best = subst (λ (q : List Seek). IsBest (rule_of facts.version (matrix_at facts other)) (length (matrix_at facts other).programmes)
+    let best = subst (λ (q : List Seek). IsBest (rule_of facts.version nobody (matrix_at facts other)) (length (matrix_at facts other).programmes)
     (seekers_of (matrix_at facts other) facts.people (lists_in_order facts) q) second.seats) (all_seek_same facts state other h) next'.best in
     let lists = lists_full facts sound in
     let sizes : length seeks ≡ length (lists_in_order facts) = length-map facts.people (λ (q : Person). next_seek facts state q.id.0) ∙ sym lists in
@@ -202,7 +202,7 @@ raises_hurt_nobody more_seats facts state other first second i person sound orde
     let given = seat_at facts first i person x.0 sound there x.1 in
     let given' = seat_at facts second i person y.0 sound there y.1 in
     let seek = next_seek facts state person.id.0 in
-    let result = more_seats facts.version table (matrix_at facts other) facts.people (lists_in_order facts) seeks seeks first.seats second.seats i list.0 seek x.0 y.0 orderly.seats orderly'.seats
+    let result = more_seats facts.version nobody nobody table (matrix_at facts other) facts.people (lists_in_order facts) seeks seeks first.seats second.seats i list.0 seek x.0 y.0 (λ p person sure. sure) orderly.seats orderly'.seats
     raised (entrants facts table sound orderly.programmes) (record { as_many = refl; each = λ j a b at at'. inl (cc) }) list.1 sought sought next.best.fair best x.1 y.1 in
     let by_list = subst (λ l. rank_of (seek_leaves table seek l) y.0 ≤ rank_of (seek_leaves table seek l) x.0) (sym own) result in
     let all = seek_leaves table seek (list_of facts.lists person.id.0) in

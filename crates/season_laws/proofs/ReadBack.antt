@@ -14,12 +14,13 @@ use Rattle.office_base.specs.Limits.{most_step_seats}
 use Rattle.office_base.specs.Lists.{IsAmong, IsSublist, Pairwise}
 use Rattle.office_base.specs.Merit.{in_merit}
 use Rattle.office_base.specs.Placement.{placed_on}
-use Rattle.office_base.specs.declared.asks.Seat.{Seat}
+use Rattle.office_base.specs.declared.seat.Seat.{Seat}
 use Rattle.office_base.specs.declared.category_steps.CategoryStep.{CategoryStep}
 use Rattle.office_base.specs.declared.person.ListId.{ListId}
 use Rattle.office_base.specs.declared.person.Person.{Person}
 use Rattle.office_base.specs.declared.person.ProgId.{ProgId}
 use Rattle.office_base.specs.declared.step.Pair.{Pair}
+use Rattle.office_base.specs.declared.seat.SeatKind.TheVariants.{Under}
 use Rattle.office_base.specs.declared.step.StepKind.{StepKind}
 use Rattle.office_base.specs.declared.step.StepKind.TheVariants.{Dereserved}
 use Rattle.kept_rows.specs.declared.rows.AllotRow.{AllotRow}
@@ -46,7 +47,7 @@ use Rattle.list_texts.specs.Laws.{IsWritten, ListsAreRead, ListsAreTold}
 use Rattle.list_texts.specs.Listing.{AreStepLists, IsListText, step_kinds}
 use Rattle.publish.specs.Laws.{FinalsAreRead, RoundsAreRead, row_of, rows_of}
 use Rattle.publish.specs.Rows.{AreRows, IsRoundText}
-use Rattle.rounds.specs.Rule.{MayApplyIn, ProgrammesChooseWell, rule_of, seekers_of}
+use Rattle.rounds.specs.Rule.{MayApplyIn, ProgrammesChooseWell, nobody, rule_of, seekers_of}
 use Rattle.rounds.specs.declared.round.Round.{Round}
 use Rattle.rounds.proofs.Entrants.{entered, length_seekers, market}
 use Rattle.round_laws.proofs.People.{found_at}
@@ -233,7 +234,7 @@ module _ (laws : AreLaws) (facts : SeasonFacts) (state : State) (sound : IsSound
 
     may : (p : ℕ) → p < count → MayApplyIn table p (applicants p seekers round.seats)
     may p below =
-        applicants_may (rule_of facts.version table) (MayApplyIn table) count p seekers round.seats are (laws.well facts.version table (orderly.course.seats (suc before))) below
+        applicants_may (rule_of facts.version nobody table) (MayApplyIn table) count p seekers round.seats are (laws.well facts.version nobody table (orderly.course.seats (suc before))) below
         just.best.fair.allocation.full
 
     full : length seekers ≡ length facts.people
@@ -271,7 +272,7 @@ module _ (laws : AreLaws) (facts : SeasonFacts) (state : State) (sound : IsSound
           candidates = omega (arith, candidates, few_stand, few_in_merit, few_seekers, size, few);
           known = subst (λ l. AllByRecursion (λ (person : Person). find_person person.id.0 facts.people ≡ Some person) l) (sym shown.persons)
               (all_among (λ (person : Person). find_person person.id.0 facts.people ≡ Some person) (admitted_by shows.0 kind)
-              (λ person there. known p person ((laws.well facts.version table (orderly.course.seats (suc before))).among p people person kind (may p below) (shows.0, shows.1, there))));
+              (λ person there. known p person ((laws.well facts.version nobody table (orderly.course.seats (suc before))).among p people person (Under kind) (may p below) (shows.0, shows.1, there))));
           distinct = subst (λ l. Pairwise (λ (a b : Person). a.id ≢ b.id) l) (sym shown.persons) (step_distinct shows.0 kind once.0);
           in_order = subst (λ l. IsSublist (map (λ (pair : Pair). pair.cand) list.cert.pairs) (map (λ (person : Person). person.id) l)) (sym shown.persons) shown.certificate.in_order;
           slots = slots;

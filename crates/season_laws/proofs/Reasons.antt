@@ -10,7 +10,8 @@ use Rattle.office_base.specs.Lists.{IsAmong, Pairwise}
 use Rattle.office_base.specs.Merit.{in_merit}
 use Rattle.office_base.specs.Person.{at_person}
 use Rattle.office_base.specs.StepNumbers.{step_number}
-use Rattle.office_base.specs.declared.asks.Seat.{Seat}
+use Rattle.office_base.specs.declared.seat.Seat.{Seat}
+use Rattle.office_base.specs.declared.seat.SeatKind.TheVariants.{Under}
 use Rattle.office_base.specs.declared.person.CandId.{CandId}
 use Rattle.office_base.specs.declared.person.Person.{Person}
 use Rattle.office_base.specs.declared.person.ProgId.{ProgId}
@@ -44,7 +45,8 @@ use Rattle.reasons.specs.declared.reason.WhyAnswer.{WhyAnswer}
 use Rattle.reasons.specs.declared.reason.WhyAnswer.TheVariants.{Reason as Because, Better, NotSought}
 use Rattle.explain.specs.Just.{ReasonsAreJust, WasApplicant}
 use Rattle.explain.specs.Reason.{admitted_in, reason_from, reason_of, refusal}
-use Rattle.rounds.specs.Rule.{MayApplyIn, ProgrammesChooseWell, rule_of, seekers_of}
+use Rattle.rounds.specs.Rule.{MayApplyIn, ProgrammesChooseWell, nobody, rule_of, seekers_of, steps_of}
+use Rattle.rounds.proofs.Nobody.{is_under}
 use Rattle.rounds.specs.declared.round.Round.{Round}
 use Rattle.rounds.proofs.Entrants.{entered, length_seekers, market}
 use Rattle.round_laws.proofs.People.{found_at, stands_at}
@@ -226,7 +228,7 @@ module _ (facts : SeasonFacts) (state : State) (before : ℕ) (round : Round) (l
 
   may : (p : ℕ) → p < count → MayApplyIn table p (applicants p seekers round.seats)
   may p below =
-      applicants_may (rule_of facts.version table) (MayApplyIn table) count p seekers round.seats are (laws.well facts.version table (orderly.course.seats (suc before))) below
+      applicants_may (rule_of facts.version nobody table) (MayApplyIn table) count p seekers round.seats are (laws.well facts.version nobody table (orderly.course.seats (suc before))) below
       just.best.fair.allocation.full
 
   -- what is shown of each step is what the choice admits
@@ -245,7 +247,7 @@ module _ (facts : SeasonFacts) (state : State) (before : ℕ) (round : Round) (l
   -- a person whose id is on a list is on it, and is admitted under its step
   record Shown (p : ℕ) (programme : Programme) (person : Person) (step : StepKind) : Type 0 where
     pub under : IsShownUnder programme step person
-    pub admits : rule_of facts.version table p (applicants p seekers round.seats) person step
+    pub admits : steps_of facts.version table p (applicants p seekers round.seats) person step
 
   admitted_shown : (p : ℕ) (programme : Programme) (person : Person) (step : StepKind) → p < count → slice_get round.programmes p ≡ Some programme
       → IsAmong person (applicants p seekers round.seats) → admitted_in programme.steps person ≡ Some step → Shown p programme person step
@@ -255,7 +257,7 @@ module _ (facts : SeasonFacts) (state : State) (before : ℕ) (round : Round) (l
       let other = taken_means list.1.admitted person list.4 in
       let shown = zip_back (ShowsStep facts.version (seats_in table p) (in_merit (seats_in table p).list (applicants p seekers round.seats)) shows.0) kinds programme.steps list.0 list.1 shows.2 list.2 in
       let by : IsAmong other.0 (admitted_by shows.0 shown.0) = subst (λ l. IsAmong other.0 l) shown.2.persons other.1 in
-      let came = (laws.well facts.version table (orderly.course.seats (suc before))).among p (applicants p seekers round.seats) other.0 shown.0 (may p below) (shows.0, shows.1, by) in
+      let came = (laws.well facts.version nobody table (orderly.course.seats (suc before))).among p (applicants p seekers round.seats) other.0 (Under shown.0) (may p below) (shows.0, shows.1, by) in
       let same : other.0 ≡ person = one_person (applicants p seekers round.seats) (may p below).distinct other.0 person came applied (same_cand other.0.id person.id other.2) in
       let kind : shown.0 ≡ step = sym shown.2.of_kind ∙ list.3 in
       record {
@@ -265,13 +267,13 @@ module _ (facts : SeasonFacts) (state : State) (before : ℕ) (round : Round) (l
 
   -- the lists tell of the step under which the person is admitted
   told_of : (p : ℕ) (programme : Programme) (person : Person) (step : StepKind) → p < count → slice_get round.programmes p ≡ Some programme → IsAmong person (applicants p seekers round.seats)
-      → rule_of facts.version table p (applicants p seekers round.seats) person step → IsShownUnder programme step person → admitted_in programme.steps person ≡ Some step
+      → steps_of facts.version table p (applicants p seekers round.seats) person step → IsShownUnder programme step person → admitted_in programme.steps person ≡ Some step
   told_of p programme person step below listed applied admits under =
       let first = somewhere programme.steps person under.0 under.1 under.3 in
       let its = admitted_shown p programme person first.0 below listed applied first.1 in
-      let one : first.0 ≡ step =
-      (laws.well facts.version table (orderly.course.seats (suc before))).one_step p (applicants p seekers round.seats) person first.0 step (may p below) its.admits admits in
-      first.1 ∙ ap (λ k. Some k) one
+      let one : Under first.0 ≡ Under step =
+      (laws.well facts.version nobody table (orderly.course.seats (suc before))).one_step p (applicants p seekers round.seats) person (Under first.0) (Under step) (may p below) its.admits admits in
+      first.1 ∙ ap (λ k. Some k) (let same : first.0 ≡ step = cc (one) in same)
 
   -- ---- a candidate who has a seat of the programme
 
@@ -290,10 +292,10 @@ module _ (facts : SeasonFacts) (state : State) (before : ℕ) (round : Round) (l
       let applied = applying prog.0 stands.place person e (Some seat) stands.at (holder_applies prog.0 e.s.list (Some seat) own same) in
       let seat_is : seat ≡ seat_at prog.0 seat.step = seat_same seat (seat_at prog.0 seat.step) is refl in
       let admitted = (just.best.fair.agrees prog.0 stands.place e.s seat.step below e.there).1 (stands.at ∙ ap (λ z. Some (Some z)) seat_is) in
-      let admits : rule_of facts.version table prog.0 (applicants prog.0 seekers round.seats) person seat.step =
-      subst (λ z. rule_of facts.version table prog.0 (applicants prog.0 seekers round.seats) z seat.step) e.person_is admitted in
-      let under : IsShownUnder listed.0 seat.step person =
-      shown_under prog.0 listed.0 person seat.step admitted.0 below listed.1 admitted.1 (subst (λ z. IsAmong z (admitted_by admitted.0 seat.step)) e.person_is admitted.2) in
+      let picked = is_under facts.version table prog.0 (applicants prog.0 seekers round.seats) e.s.person seat.step admitted in
+      let admits : steps_of facts.version table prog.0 (applicants prog.0 seekers round.seats) person picked.step =
+      subst (λ z. steps_of facts.version table prog.0 (applicants prog.0 seekers round.seats) z picked.step) e.person_is picked.chosen in
+      let under : IsShownUnder listed.0 picked.step person = shown_under prog.0 listed.0 person picked.step admits.0 below listed.1 admits.1 admits.2 in
       record {
         person = person;
         known = subst (λ n. find_person n facts.people ≡ Some person) stands.is (found_at facts.people stands.place person sound.ranks.rising stands.person_at);
@@ -302,9 +304,9 @@ module _ (facts : SeasonFacts) (state : State) (before : ℕ) (round : Round) (l
         listed = listed.1;
         applied = applied;
         chosen = just.shown prog.0 listed.0 listed.1;
-        by_lists = ap (λ o. reason_from o (refusal (seats_in table prog.0).list listed.0 person)) (sym (told_of prog.0 listed.0 person seat.step below listed.1 applied admits under));
+        by_lists = ap Admitted picked.is ∙ ap (λ o. reason_from o (refusal (seats_in table prog.0).list listed.0 person)) (sym (told_of prog.0 listed.0 person picked.step below listed.1 applied admits under));
         against = tt;
-        admitted = λ step e. subst (λ k. IsShownUnder listed.0 k person) (let same : seat.step ≡ step = cc in same) under;
+        admitted = λ step told. subst (λ k. IsShownUnder listed.0 k person) (let kind = picked.is in let same : picked.step ≡ step = cc (told, kind) in same) under;
       }
 
   -- ---- a candidate who has none
@@ -373,7 +375,7 @@ module _ (facts : SeasonFacts) (state : State) (before : ℕ) (round : Round) (l
       ranked None has seek list prog less distinct not_before = omega (arith, less)
       ranked (Some seat) has seek list prog less distinct not_before = left_order table seek list prog.0 seat.prog.0 distinct less (not_before seat has)
 
-      told_admitted : (o : Option StepKind) (x y z : Option StepWhy) (step : StepKind) → reason_from o (Refused x y z) ≡ Admitted step → o ≡ Some step
+      told_admitted : (o : Option StepKind) (x y z : Option StepWhy) (step : StepKind) → reason_from o (Refused x y z) ≡ Admitted (Under step) → o ≡ Some step
       told_admitted None x y z step e = absurd (cc)
       told_admitted (Some kind) x y z step e = cc
 

@@ -6,6 +6,7 @@ use Rattle.office_base.specs.declared.asks.Request.{Request}
 use Rattle.office_base.specs.declared.person.CandId.{CandId}
 use Rattle.office_base.specs.declared.person.Person.{Person}
 use Rattle.office_base.specs.declared.person.ProgId.{ProgId}
+use Rattle.office_base.specs.declared.seat.SeatKind.TheVariants.{Under}
 use Rattle.office_base.specs.declared.step.StepKind.{StepKind}
 use Rattle.allocations.specs.Market.{applicants}
 use Rattle.rank_lists.specs.Register.{find_person}
@@ -49,7 +50,7 @@ pub record IsJustReason (facts : SeasonFacts) (matrix : SeatTable) (round : Roun
   -- each step that the reason names counts against the person
   pub against : AllByRecursion (StandsAgainst (seats_in matrix prog.0) programme person) (told reason)
   -- and a person whose reason is an admission is on the list of that step
-  pub admitted : (step : StepKind) → reason ≡ Admitted step → IsShownUnder programme step person
+  pub admitted : (step : StepKind) → reason ≡ Admitted (Under step) → IsShownUnder programme step person
 
 -- In a state in which all is in order, each reason by a published round is just, by the matrix of that round.
 abbrev pub OfficeReasonsAreJust : SeasonFacts → Type 0

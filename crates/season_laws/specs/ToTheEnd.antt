@@ -1,6 +1,6 @@
 -- From the first seat to the admission: who keeps a seat at every cut never falls, and is admitted in the end.
 use Rattle.std.specs.Prelude.{◌≡◌, ◌<◌, ◌≤◌, ◌+◌, ℕ, true, List, Some, length}
-use Rattle.office_base.specs.declared.asks.Seat.{Seat}
+use Rattle.office_base.specs.declared.seat.Seat.{Seat}
 use Rattle.kept_rows.specs.declared.rows.AllotRow.{AllotRow}
 use Rattle.allocations.specs.Market.{place_of}
 use Rattle.choice_lists.specs.Choices.{list_of}

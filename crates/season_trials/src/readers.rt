@@ -1,6 +1,6 @@
 // Published texts read back, and the lines of those that are damaged.
 use kept_rows::AllotRow;
-use office_base::{CandId, ProgId, StepKind};
+use office_base::{CandId, ProgId, SeatKind, StepKind};
 use publish::{TextFault, read_final, read_round};
 use season_file::Season;
 use std::alloc::Global;
@@ -12,6 +12,8 @@ pub(crate) const SEASON: &str =
 /// Final admissions, and the line of their fault: 0 where they are read.
 const DAMAGED_FINALS: &[(&str, u32)] = &[
     ("final 0\nend final\n", 0),
+    ("final 1\nadmit 7 A KEPT\nend final\n", 0),
+    ("final 1\nadmit 7 A KEEP\nend final\n", 2),
     ("", 1),
     ("final 4\n", 1),
     ("final 01\n", 1),
@@ -47,6 +49,8 @@ const BEGUN_FINALS: &[(&str, u32)] = &[
     ("final 1\nadmit 12 B", 3),
     ("final 1\nadmit 12 C", 2),
     ("final 1\nadmit 12 B E", 3),
+    ("final 1\nadmit 12 B KEP", 3),
+    ("final 1\nadmit 12 B KEPX", 2),
     ("final 1\nadmit 12 B EX", 2),
     ("final 1\nadmit 12 B D", 3),
     ("final 1\nadmit 12 B D\nend final", 4),
@@ -79,7 +83,7 @@ fn row(round: u16, cand: u32, prog: u16, step: StepKind) -> AllotRow {
         round,
         cand: CandId(cand),
         prog: ProgId(prog),
-        step,
+        step: SeatKind::Under(step),
     }
 }
 

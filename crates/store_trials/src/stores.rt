@@ -3,7 +3,7 @@
 use keeper_mem::{KeepFault, Keeper};
 use keeper_sqlite::SqliteKeeper;
 use kept_rows::{AllotRow, AnswerRow, RaiseRow};
-use office_base::{CandId, Choice, ProgId, StepKind};
+use office_base::{CandId, Choice, ProgId, SeatKind, StepKind};
 use sqlite::{Connection, MemStore};
 use std::alloc::Global;
 use std::test::Fail;
@@ -128,6 +128,6 @@ pub fn allot(round: u16, cand: u32, prog: u16, step: StepKind) -> AllotRow {
         round,
         cand: CandId(cand),
         prog: ProgId(prog),
-        step,
+        step: SeatKind::Under(step),
     }
 }
