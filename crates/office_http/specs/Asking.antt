@@ -1,10 +1,10 @@
 -- An ask that is put to an office with its token, and what comes of it.
-use Rattle.std.specs.Prelude.{◌≡◌, ◌≤◌, ◌⊎◌, ◌++◌, ℕ, [], Bool, true, false, List, Option, Some, None, Result, Ok, Err, IfOk}
+use Rattle.std.specs.Prelude.{◌≡◌, ◌≤◌, ◌⊎◌, ◌++◌, ℕ, [], Bool, true, false, List, Option, Some, None, Result, Ok, Err, IfOk, length}
 use Rattle.office_base.specs.Outside.{Rose}
-use Rattle.office_base.specs.declared.asks.Ask.{Ask}
-use Rattle.office_base.specs.declared.asks.By.{By}
-use Rattle.office_base.specs.declared.asks.By.TheVariants.{Nobody}
-use Rattle.office_base.specs.declared.asks.Request.{Request}
+use Rattle.office_asks.specs.declared.ask.Ask.{Ask}
+use Rattle.office_asks.specs.declared.ask.By.{By}
+use Rattle.office_asks.specs.declared.ask.By.TheVariants.{Nobody}
+use Rattle.office_asks.specs.declared.ask.Request.{Request}
 use Rattle.keeper_mem.specs.Keeper.{KeeperView}
 use Rattle.kept_rows.specs.Tables.{AreTold, IsTold}
 use Rattle.office_moves.specs.Facts.{SeasonFacts}
@@ -23,7 +23,7 @@ use Rattle.shown_replies.specs.Shown.{round_shown, rows_shown}
 use Rattle.http_wire.specs.declared.faults.Fault.{Fault}
 use Rattle.http_wire.specs.declared.faults.Fault.TheVariants.{Keeper, Memory}
 use Rattle.http_sessions.specs.declared.counter.Answered.{Answered}
-use Rattle.office_http.specs.Keeping.{SettlesOffice}
+use Rattle.office_http.specs.Keeping.{CountsKept, SettlesOffice, StoodView}
 
 -- ---- who asks what
 
@@ -131,3 +131,8 @@ module _ {K : Type 0} (seen : K → KeeperView) where
   AsksSettled number token ask (Err fault) old new = HasNotAnswered (request_of old.season token ask) fault old new
       ⊎ ((mid : OfficeView K) × (answered : Answered) × HasAnswered number (request_of old.season token ask) answered old mid
       × SettlesOffice seen (Err fault) mid new)
+
+  -- an ask with its token, put to an office at a desk: its answer, what is kept then, and how many entries there are
+  abbrev pub PutsStood : ℕ → Option (List ℕ) → Ask → Result Answered Fault → Bool → ℕ → StoodView K → StoodView K → Type 0
+  PutsStood number token ask answer settled count old new =
+      AsksOffice number token ask answer old.office new.office × CountsKept seen new.office old.kept settled new.kept × (old.kept ≤ new.kept) × (count ≡ length new.office.entries)

@@ -1,7 +1,7 @@
 // An office at a desk as a counter.
 ghost use Rattle.std.specs.Prelude.{◌≡◌, ◌<◌, ◌≤◌, ◌+◌, length, option_copied};
-ghost use Rattle.office_http.specs.Asking.{AsksOffice, token_of};
-ghost use Rattle.office_http.specs.Keeping.{CountsKept, KeepsStood, MayWait};
+ghost use Rattle.office_http.specs.Asking.{PutsStood, token_of};
+ghost use Rattle.office_http.specs.Keeping.{KeepsStood, MayWait};
 ghost use Rattle.office_http.specs.Knowing.{PutsInTurn, SettlesInTurn, known_of};
 ghost use Rattle.office_desk.specs.Words.{belongs, left_of, origin_of, seen_of};
 ghost use Rattle.proceedings.specs.Proceeding.{last_of};
@@ -11,7 +11,7 @@ use crate::token_parts;
 use http_sessions::{Answered, Counter};
 use http_wire::Fault;
 use keeper_mem::Keeper;
-use office_base::Ask;
+use office_asks::Ask;
 use office_desk::{Desk, Keeps, Pass};
 use std::alloc::Global;
 use std::sync::Wait;
@@ -63,10 +63,8 @@ fn put_in_turn<K: Keeper, B: TablesBefore, R: Wait>(
         pass,
         |stood: &mut DeskOffice<K, B>, number: u64| -> (Result<Answered, Fault>, bool, usize)
             requires { last_of stood.old.office.entries < number }
-            ensures { AsksOffice K.seen number (token_of has_token bytes.entry.now) ask.entry.now
-                result.0 stood.old.office stood.new.office × CountsKept K.seen stood.new.office
-                stood.old.kept result.1 stood.new.kept × (stood.old.kept ≤ stood.new.kept)
-                × (result.2 ≡ length stood.new.office.entries) }
+            ensures { PutsStood K.seen number (token_of has_token bytes.entry.now)
+                ask.entry.now result.0 result.1 result.2 stood.old stood.new }
         { stood.put(alloc, number, has_token, bytes, ask) },
     )
 }
