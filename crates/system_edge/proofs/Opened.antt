@@ -17,9 +17,8 @@ use Rattle.stored_tables.specs.Told.{told, told_if, tables_in, without_raises}
 use Rattle.stored_tables.specs.Layout.{no_schema, first_four, has_tables as has_layout, stored}
 use Rattle.keeper_sqlite.specs.Commits.{CommitsOnce}
 use Rattle.keeper_sqlite.specs.Stored.{Stored}
-use Rattle.system_edge.specs.Heads.{HasSoundHead}
 use Rattle.system_edge.specs.Held.{AreHeld}
-use Rattle.system_edge.specs.Hidden.{HidesNothing}
+use Rattle.system_edge.specs.Hidden.{MayOpen}
 use Rattle.system_edge.specs.Tables.{HasTables, HoldsFiles, IsOpenedOver, MakesTables}
 
 -- no lie was taken before, if none was taken up to now
@@ -60,15 +59,13 @@ module _ {D : Type 0} {g : disk.Ghosts D} where
   -- what was opened over files that held this shows it
   pub opened_over : (files : Files D) (image : Image) (connection : Held (FileStore D g)) → image_of g files ≡ image
       → (HasCleanDisk (file_state connection) → IsOpened connection × Finds files connection)
-      → (HasCleanDisk (file_state connection) → HasSoundHead (g.seen files.log))
-      → (HasCleanDisk (file_state connection) → HidesNothing (g.seen files.log)) → IsOpenedOver image connection
-  opened_over files image connection same opened sound whole clean =
+      → (HasCleanDisk (file_state connection) → MayOpen (g.seen files.log) (g.seen files.db)) → IsOpenedOver image connection
+  opened_over files image connection same opened sound clean =
       let (is_open, found) = opened clean in
       record {
         opened = is_open;
         found = subst (λ (i : Image). FindsIn i (file_state connection)) same (record { holds = found.holds; reads = found.reads });
-        sound = subst (λ (i : Image). HasSoundHead i.log) same (sound clean);
-        whole = subst (λ (i : Image). HidesNothing i.log) same (whole clean);
+        sound = subst (λ (i : Image). MayOpen i.log i.db) same (sound clean);
       }
 
   -- a keeper over a connection that shows what two files held

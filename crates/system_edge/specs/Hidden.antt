@@ -2,6 +2,7 @@
 use Rattle.std.specs.Prelude.{◌≡◌, ◌≢◌, ◌⊎◌, ℕ, suc, ◌+◌, ◌≤◌, List, length}
 use Rattle.sqlite_wal.specs.Format.{part, be32, count_page, page_number, IsSigned}
 use Rattle.sqlite_wal.specs.Recovery.{Passes, Replays, frame, frame_at, header}
+use Rattle.system_edge.specs.Heads.{HasSoundHead}
 
 -- The frame behind frame i passes its test, and counts a commit.
 -- The database writes such a frame only when frame i and all frames before it are commits that the disk has.
@@ -25,3 +26,12 @@ HidesCommit page_size log k = IsRevealed page_size log k ⊎ ((i : ℕ) × (k �
 abbrev pub HidesNothing : List ℕ → Type 0
 HidesNothing log =
     32 ≤ length log → IsSigned (header log) → (k : ℕ) → Replays (be32 log 8) log k → ¬ HidesCommit (be32 log 8) log k
+
+-- The files hold nothing: the database file is empty, and the log is too short for a frame, as where a power cut came before anything was kept.
+pub record HoldNothing (log db : List ℕ) : Type 0 where
+  pub short : length log ≤ 41
+  pub empty : length db ≡ 0
+
+-- A database may open these files: the head of the log is sound and the log hides no commit, or they hold nothing.
+abbrev pub MayOpen : List ℕ → List ℕ → Type 0
+MayOpen log db = (HasSoundHead log × HidesNothing log) ⊎ HoldNothing log db

@@ -2,8 +2,7 @@
 use Rattle.sqlite_disk.specs.declared.Disk.{Ghosts}
 use Rattle.sqlite_disk.specs.declared.Files.{Files}
 use Rattle.sqlite_wal.specs.Reads.{IsClean, OnlyReads}
-use Rattle.system_edge.specs.Heads.{HasSoundHead}
-use Rattle.system_edge.specs.Hidden.{HidesNothing}
+use Rattle.system_edge.specs.Hidden.{MayOpen}
 use Rattle.system_edge.specs.declared.stores.Unopened.{Unopened}
 use Rattle.system_edge.specs.declared.stores.Unopened.TheVariants.{Log, Database}
 
@@ -17,12 +16,11 @@ module _ {D : Type 0} (g : Ghosts D) where
   abbrev pub AreOnlyRead : Files D → Files D → Type 0
   AreOnlyRead old new = OnlyReads g old.log new.log × OnlyReads g old.db new.db
 
-  -- The log was read. Its head is sound and it hides no commit, if the disk returned what the log holds.
-  abbrev pub ReadsSoundLog : Files D → Type 0
-  ReadsSoundLog files =
-      (log : D) × OnlyReads g files.log log × (IsClean g log → HasSoundHead (g.seen files.log) × HidesNothing (g.seen files.log))
+  -- The files were read. A database may open them, if the disk returned what they hold.
+  abbrev pub ReadsSoundFiles : Files D → Type 0
+  ReadsSoundFiles files = (read : Files D) × AreOnlyRead files read × (IsClean g read.log → IsClean g read.db → MayOpen (g.seen files.log) (g.seen files.db))
 
-  -- A damaged log leaves both files as they were. The database refuses files only with a sound log.
+  -- A damaged log leaves both files as they were. The database refuses only files that it may open.
   abbrev pub IsRefused : Files D → Unopened D → Type 0
   IsRefused files (Log left) = AreOnlyRead files left
-  IsRefused files (Database left) = ReadsSoundLog files
+  IsRefused files (Database left) = ReadsSoundFiles files

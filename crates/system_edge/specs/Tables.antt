@@ -13,8 +13,7 @@ use Rattle.stored_tables.specs.Told.{told, tables_in, without_raises}
 use Rattle.stored_tables.specs.Layout.{no_schema, first_four, stored}
 use Rattle.keeper_sqlite.specs.Kept.{DidAll, Keeps, plain_calls, table_texts}
 use Rattle.keeper_sqlite.specs.Stored.{Stored}
-use Rattle.system_edge.specs.Heads.{HasSoundHead}
-use Rattle.system_edge.specs.Hidden.{HidesNothing}
+use Rattle.system_edge.specs.Hidden.{MayOpen}
 
 module _ {S : Type 0} (g : Ghosts S) where
   -- the texts of the tables were run over this connection and committed, and nothing else was done
@@ -37,12 +36,11 @@ module _ {S : Type 0} (g : Ghosts S) where
         → told (state g keeper.connection) ≡ tables_in (state g begun).now.trees
 
 module _ {D : Type 0} {g : disk.Ghosts D} where
-  -- The connection is open and shows the database that these two files stood for. The head of their log was sound, and the log hid no commit.
+  -- The connection is open and shows the database that these two files stood for. A database may open them: the head of their log was sound and the log hid no commit, or they held nothing.
   pub record ShowsFiles (image : Image) (connection : Held (FileStore D g)) : Type 0 where
     pub opened : IsOpened connection
     pub found : FindsIn image (file_state connection)
-    pub sound : HasSoundHead image.log
-    pub whole : HidesNothing image.log
+    pub sound : MayOpen image.log image.db
 
   -- so it is if the disk returned what was written
   abbrev pub IsOpenedOver : Image → Held (FileStore D g) → Type 0

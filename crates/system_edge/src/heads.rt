@@ -13,7 +13,7 @@ use std::io;
 pub const HEAD_LEN: usize = 32;
 
 // The length of a log that holds nothing: a head, and the first bytes of a frame.
-const EMPTY_LEN: usize = 41;
+pub const EMPTY_LEN: usize = 41;
 
 /// Returns whether a database may open this log: it is empty, or its head is sound, or a checkpoint had begun to empty it.
 /// A database takes any other log for an empty one and writes over it. The call only reads.

@@ -16,4 +16,4 @@ pub returns-in-Ok-clause-opened : goal.returns-in-Ok-clause-opened
 returns-in-Ok-clause-opened g c =
     let (log, db) = c.in_ok-files.ensures.fresh in
     let shown = seen g.S.Start.log g.S.Start.db in
-    opened_over c.in_ok-files.files (image_at g.S.Start) c.in-Ok.connection (ap₂ image (ap₂ shown log.0 log.1) (ap₂ shown db.0 db.1)) c.in-Ok.ensures.opened c.in-Ok.ensures.sound c.in-Ok.ensures.whole
+    opened_over c.in_ok-files.files (image_at g.S.Start) c.in-Ok.connection (ap₂ image (ap₂ shown log.0 log.1) (ap₂ shown db.0 db.1)) c.in-Ok.ensures.opened c.in-Ok.ensures.sound

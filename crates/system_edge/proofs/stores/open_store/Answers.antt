@@ -1,18 +1,17 @@
-use Rattle.system_edge.proofs.Found.{found_before, log_is_clean}
+use Rattle.system_edge.proofs.Found.{db_is_clean, found_before, log_is_clean}
 use Rattle.system_edge.proofs.stores.open_store.Goals as goal
 
 pub returns-in-Ok-clause-opened : goal.returns-in-Ok-clause-opened
 returns-in-Ok-clause-opened g c clean =
-    (c.in-Ok.ensures.opened clean, found_before g.D.Disk c.args.files c.is_sound.new.log c.in-Ok-true.ensures.same c.in-Ok.connection (c.in-Ok.ensures.found clean))
+    (c.in-Ok.ensures.opened clean, found_before g.D.Disk c.args.files c.may_open.new.files c.in-Ok-true.ensures.same c.in-Ok.connection (c.in-Ok.ensures.found clean))
 
 pub returns-in-Ok-clause-sound : goal.returns-in-Ok-clause-sound
 returns-in-Ok-clause-sound g c clean =
-    ((c.in-Ok-true.ensures.sound (log_is_clean g.D.Disk c.args.files c.is_sound.new.log c.in-Ok-true.ensures.same c.in-Ok.connection (c.in-Ok.ensures.found clean))).0 c.in-Ok-true.field-0-test).0
-
-pub returns-in-Ok-clause-whole : goal.returns-in-Ok-clause-whole
-returns-in-Ok-clause-whole g c clean =
-    ((c.in-Ok-true.ensures.sound (log_is_clean g.D.Disk c.args.files c.is_sound.new.log c.in-Ok-true.ensures.same c.in-Ok.connection (c.in-Ok.ensures.found clean))).0 c.in-Ok-true.field-0-test).1
+    let found = c.in-Ok.ensures.found clean in
+    let log = log_is_clean g.D.Disk c.args.files c.may_open.new.files c.in-Ok-true.ensures.same c.in-Ok.connection found in
+    let db = db_is_clean g.D.Disk c.args.files c.may_open.new.files c.in-Ok-true.ensures.same c.in-Ok.connection found in
+    (c.in-Ok-true.ensures.sound log db).0 c.in-Ok-true.field-0-test
 
 pub returns-in-Err-clause-refused : goal.returns-in-Err-clause-refused
 returns-in-Err-clause-refused g c =
-    (c.is_sound.new.log, c.in-Ok-true.ensures.same, λ clean. (c.in-Ok-true.ensures.sound clean).0 c.in-Ok-true.field-0-test)
+    (c.may_open.new.files, c.in-Ok-true.ensures.same, λ log db. (c.in-Ok-true.ensures.sound log db).0 c.in-Ok-true.field-0-test)
