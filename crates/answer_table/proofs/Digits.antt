@@ -2,8 +2,8 @@
 use Rattle.std.proofs.Common.{◌≡◌, ◌<◌, ◌+◌, ◌*◌, ◌/◌, ◌%◌, ℕ, zero, suc, List, [], ◌∷◌, ◌++◌, length, take, get_or, slice_set, arith, refl, ap}
 use Rattle.std.specs.Prelude.{slice_get, flat_map}
 use Rattle.answer_table.specs.Turns.{four_of, digit_of, of_digit}
-use Rattle.office_base.specs.declared.asks.Choice.{Choice}
-use Rattle.office_base.specs.declared.asks.Choice.TheVariants.{Freeze, Float, Slide, Withdraw}
+use Rattle.office_base.specs.declared.choice.Choice.{Choice}
+use Rattle.office_base.specs.declared.choice.Choice.TheVariants.{Freeze, Float, Slide, Withdraw}
 
 -- the choice at a place of the bytes is the one at a place of its byte
 pub get_four : (bytes : List ℕ) (at : ℕ) → at / 4 < length bytes → slice_get (flat_map four_of bytes) at ≡ slice_get (four_of (get_or bytes (at / 4) 0)) (at % 4)

@@ -6,7 +6,7 @@ use Rattle.std.proofs.lemmas.List.{length-take-le, length-set, map-set}
 use Rattle.std.proofs.lemmas.List.Elements.{All-set}
 use Rattle.answer_table.specs.Turns.{choices_of, four_of, IsTurns, no_turns}
 use Rattle.answer_table.proofs.Digits.{put_four, length_four}
-use Rattle.office_base.specs.declared.asks.Choice.{Choice}
+use Rattle.office_base.specs.declared.choice.Choice.{Choice}
 use Rattle.answer_table.specs.declared.turns.Turns.{Turns}
 
 -- as many choices as turns

@@ -22,7 +22,7 @@ pub struct AnswerTable {
 
 impl Model for AnswerTable {
     ghost use Rattle.std.specs.Prelude.{List, map, All};
-    ghost use Rattle.office_base.specs.declared.asks.Choice.{Choice};
+    ghost use Rattle.office_base.specs.declared.choice.Choice.{Choice};
     ghost use Rattle.answer_table.specs.Turns.{choices_of, IsTurns};
 
     ghost Value = { List (List Choice) };
@@ -34,7 +34,7 @@ impl Model for AnswerTable {
 
 impl AnswerTable {
     ghost use Rattle.std.specs.Prelude.{List};
-    ghost use Rattle.office_base.specs.declared.asks.Choice.{Choice};
+    ghost use Rattle.office_base.specs.declared.choice.Choice.{Choice};
     ghost use Rattle.answer_table.specs.Turns.{choice_at, last_choice, no_turns};
 
     /// A table of this many candidates, who have taken no turn.

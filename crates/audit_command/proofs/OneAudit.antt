@@ -2,7 +2,7 @@
 use Rattle.std.proofs.Common.{◌≡◌, ◌++◌, ◌∙◌, inl, inr, ℕ, Bool, true, false, List, ap, refl, sym, subst}
 use Rattle.std.specs.Prelude.{codes}
 use Rattle.seat_matrix.specs.Matrix.{SeatTable}
-use Rattle.office_base.specs.declared.asks.Request.{Request}
+use Rattle.office_asks.specs.declared.ask.Request.{Request}
 use Rattle.office_moves.specs.Facts.{SeasonFacts}
 use Rattle.dossier_file.specs.declared.dossier.Dossier.{Dossier}
 use Rattle.audit_rules.specs.declared.verdict.Verdict.{Verdict}

@@ -1,7 +1,7 @@
 -- Bytes have one output of `audit best`.
 use Rattle.std.proofs.Common.{◌≡◌, ◌++◌, ◌∙◌, inl, inr, ℕ, Bool, true, false, List, map, ap, refl, sym, subst}
 use Rattle.std.specs.Prelude.{option_map}
-use Rattle.office_base.specs.declared.asks.Request.{Request}
+use Rattle.office_asks.specs.declared.ask.Request.{Request}
 use Rattle.office_moves.specs.Facts.{SeasonFacts}
 use Rattle.season_facts.specs.Season.{facts_of}
 use Rattle.dossier_file.specs.Dossier.{papers_of}

@@ -4,8 +4,8 @@ use Rattle.std.specs.Prelude.{◌&&◌, ◌||◌, nat_le}
 use Rattle.std.proofs.lemmas.Bool.{and_from, and_parts, eqb-true, and_right, and_left}
 use Rattle.std.proofs.lemmas.Bool.Decides.{nat_tests}
 use Rattle.office_base.specs.Limits.{most_turns}
-use Rattle.office_base.specs.declared.asks.By.{By}
-use Rattle.office_base.specs.declared.asks.Choice.{Choice}
+use Rattle.office_asks.specs.declared.ask.By.{By}
+use Rattle.office_base.specs.declared.choice.Choice.{Choice}
 use Rattle.kept_rows.specs.declared.rows.AnswerRow.{AnswerRow}
 use Rattle.round_options.specs.Options.{may_follow}
 use Rattle.office_moves.specs.Decided.{answer_facts, decide_answer, is_known}

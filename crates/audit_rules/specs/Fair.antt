@@ -1,8 +1,8 @@
 -- What a season's papers are worth where no clause is broken.
 use Rattle.std.specs.Prelude.{◌≡◌, ◌<◌, ◌+◌, ◌*◌, ℕ, true, Bool, ◌==◌, ◌&&◌, nat_le, List, [], ◌∷◌, Some, IsSome, min, length, slice_get, if◌then◌else◌}
-use Rattle.office_base.specs.declared.asks.Ask.{Ask}
-use Rattle.office_base.specs.declared.asks.Ask.TheVariants.{Cut}
-use Rattle.office_base.specs.declared.asks.Request.{Request}
+use Rattle.office_asks.specs.declared.ask.Ask.{Ask}
+use Rattle.office_asks.specs.declared.ask.Ask.TheVariants.{Cut}
+use Rattle.office_asks.specs.declared.ask.Request.{Request}
 use Rattle.office_base.specs.declared.seat.Seat.{Seat}
 use Rattle.allocations.specs.Fair.{HasClaim, IsFair}
 use Rattle.allocations.specs.Market.{applicants}

@@ -1,6 +1,6 @@
 -- What holds of verdicts, over the definitions alone.
 use Rattle.std.specs.Prelude.{◌≡◌, ℕ, List}
-use Rattle.office_base.specs.declared.asks.Request.{Request}
+use Rattle.office_asks.specs.declared.ask.Request.{Request}
 use Rattle.office_moves.specs.Facts.{IsSound, SeasonFacts}
 use Rattle.audit_rules.specs.Fair.{AreFairRounds, AreTaken, AreWhole}
 use Rattle.audit_rules.specs.Papers.{Papers}

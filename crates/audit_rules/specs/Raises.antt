@@ -1,7 +1,7 @@
 -- Which raises a replay takes.
 use Rattle.std.specs.Prelude.{Bool, not, ◌&&◌, ◌==◌, ◌+◌, ◌-◌, nat_le, nat_lt}
 use Rattle.office_base.specs.Limits.{most_matrix_seats, most_step_seats}
-use Rattle.office_base.specs.declared.asks.By.{By}
+use Rattle.office_asks.specs.declared.ask.By.{By}
 use Rattle.kept_rows.specs.declared.rows.RaiseRow.{RaiseRow}
 use Rattle.seat_matrix.specs.Seats.{is_dereserved}
 use Rattle.office_moves.specs.Judge.{is_clerk}

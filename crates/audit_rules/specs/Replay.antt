@@ -1,7 +1,7 @@
 -- The replay of a season from its papers: the office's own moves over a script, but each cut takes what the papers tell and computes nothing.
 use Rattle.std.specs.Prelude.{◌+◌, ℕ, List, [], ◌∷◌, length, take}
 use Rattle.std.specs.Option.{unwrap_or}
-use Rattle.office_base.specs.declared.asks.Request.{Request}
+use Rattle.office_asks.specs.declared.ask.Request.{Request}
 use Rattle.kept_rows.specs.declared.rows.AllotRow.{AllotRow}
 use Rattle.rounds.specs.declared.round.Round.{Round}
 use Rattle.office_moves.specs.Decided.{decided}

@@ -1,7 +1,7 @@
 -- The standing of each candidate in the open window of a replay.
 use Rattle.std.specs.Prelude.{ℕ, Bool, not, ◌&&◌, ◌||◌, ◌==◌, ◌+◌, nat_le, List, Option, None, is_some, map, option_map}
 use Rattle.office_base.specs.Limits.{most_turns}
-use Rattle.office_base.specs.declared.asks.By.{By}
+use Rattle.office_asks.specs.declared.ask.By.{By}
 use Rattle.office_base.specs.declared.seat.Seat.{Seat}
 use Rattle.office_base.specs.declared.person.ProgId.{ProgId}
 use Rattle.allocations.specs.Market.{place_of}

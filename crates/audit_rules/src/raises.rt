@@ -4,8 +4,9 @@ ghost use Rattle.office_base.specs.Limits.{most_raised_seats};
 ghost use Rattle.audit_rules.specs.Raises.{lifts};
 
 use kept_rows::RaiseRow;
+use office_asks::By;
+use office_base::StepKind;
 use office_base::limits::{MOST_MATRIX_SEATS, MOST_STEP_SEATS};
-use office_base::{By, StepKind};
 use office_moves::RaiseFacts;
 
 /// Returns whether the clerk raises seats anew, in the open window, before the last one, to a number that the step may have.

@@ -3,8 +3,9 @@ ghost use Rattle.std.specs.Prelude.{◌≡◌};
 ghost use Rattle.audit_rules.specs.Stands.{after_answer, cut, first_stand, may_answer, notes};
 
 use kept_rows::AnswerRow;
+use office_asks::By;
 use office_base::limits::MOST_TURNS;
-use office_base::{By, Choice, Seat};
+use office_base::{Choice, Seat};
 use round_options::{Standing, after_cut, allowed, standing_of};
 
 /// What a replay keeps of a candidate: the standing that the last cut left, the last turn of the open window (0 if there is

@@ -2,7 +2,7 @@
 use Rattle.std.proofs.Common.{◌≡◌, ◌<◌, ◌+◌, ◌↔◌, ℕ, List, arith, ap, refl, subst, sym, ◌∙◌}
 use Rattle.std.specs.Prelude.{slice_get}
 use Rattle.std.proofs.lemmas.Option.{same_Some}
-use Rattle.office_base.specs.declared.asks.Request.{Request}
+use Rattle.office_asks.specs.declared.ask.Request.{Request}
 use Rattle.office_base.specs.declared.person.CandId.{CandId}
 use Rattle.allocations.specs.Market.{Seeker}
 use Rattle.office_moves.specs.Facts.{SeasonFacts}

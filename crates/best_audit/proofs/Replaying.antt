@@ -4,10 +4,10 @@ use Rattle.std.specs.Prelude.{IfOk, IsTrue, is_some, not, nat_lt, slice_get, ◌
 use Rattle.std.proofs.lemmas.Bool.{cases_eq}
 use Rattle.std.proofs.lemmas.Bool.Decides.{nat_tests}
 use Rattle.std.proofs.lemmas.Option.{get_or_from_slice_get, slice_get_within}
-use Rattle.office_base.specs.declared.asks.Ask.{Ask}
-use Rattle.office_base.specs.declared.asks.Ask.TheVariants.{Cut as AskCut}
-use Rattle.office_base.specs.declared.asks.By.{By}
-use Rattle.office_base.specs.declared.asks.Request.{Request}
+use Rattle.office_asks.specs.declared.ask.Ask.{Ask}
+use Rattle.office_asks.specs.declared.ask.Ask.TheVariants.{Cut as AskCut}
+use Rattle.office_asks.specs.declared.ask.By.{By}
+use Rattle.office_asks.specs.declared.ask.Request.{Request}
 use Rattle.office_base.specs.declared.errors.OutOfMemory.{OutOfMemory}
 use Rattle.office_base.specs.declared.person.CandId.{CandId}
 use Rattle.office_base.proofs.Lists.{there_is}

@@ -1,6 +1,6 @@
 -- What the round of a cut is compared over, and what the comparison finds.
 use Rattle.std.specs.Prelude.{◌≡◌, List, Option, Some, None, length}
-use Rattle.office_base.specs.declared.asks.Request.{Request}
+use Rattle.office_asks.specs.declared.ask.Request.{Request}
 use Rattle.office_base.specs.declared.seat.Seat.{Seat}
 use Rattle.office_base.specs.declared.person.CandId.{CandId}
 use Rattle.allocations.specs.Fair.{IsFair}

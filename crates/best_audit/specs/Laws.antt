@@ -1,6 +1,6 @@
 -- What holds of second verdicts, over the definitions alone.
 use Rattle.std.specs.Prelude.{◌≡◌, ◌↔◌, List}
-use Rattle.office_base.specs.declared.asks.Request.{Request}
+use Rattle.office_asks.specs.declared.ask.Request.{Request}
 use Rattle.office_moves.specs.Facts.{SeasonFacts}
 use Rattle.audit_rules.specs.Papers.{Papers}
 use Rattle.best_audit.specs.Best.{AreBestRounds, IsBestVerdict}

@@ -1,6 +1,6 @@
 // The round of a cut, made again and compared.
 ghost use Rattle.std.specs.Prelude.{◌≡◌, ◌<◌, ◌↔◌, IfOk, IsTrue, Some, length, slice_get};
-ghost use Rattle.office_base.specs.declared.asks.Request.{Request as AnyRequest};
+ghost use Rattle.office_asks.specs.declared.ask.Request.{Request as AnyRequest};
 ghost use Rattle.office_moves.specs.Decided.{decided};
 ghost use Rattle.office_moves.specs.Facts.{SeasonFacts};
 ghost use Rattle.season_facts.specs.Season.{facts_of};
@@ -14,7 +14,8 @@ use crate::sought::seeks_at;
 use apply_engine::plain_round;
 use audit_rules::seats_told;
 use dossier_file::Dossier;
-use office_base::{Ask, By, CandId, OutOfMemory, Request};
+use office_asks::{Ask, By, Request};
+use office_base::{CandId, OutOfMemory};
 use season_audit::{Auditor, rows_after};
 use std::alloc::Global;
 

@@ -9,7 +9,7 @@ use Rattle.office_base.proofs.Lists.{get-after, get-before}
 use Rattle.office_base.proofs.People.{at_person-get}
 use Rattle.office_base.specs.Lists.{Pairwise}
 use Rattle.office_base.specs.Person.{at_person}
-use Rattle.office_base.specs.declared.asks.Choice.{Choice}
+use Rattle.office_base.specs.declared.choice.Choice.{Choice}
 use Rattle.office_base.specs.declared.seat.Seat.{Seat}
 use Rattle.office_base.specs.declared.person.Person.{Person}
 use Rattle.kept_rows.specs.declared.rows.AllotRow.{AllotRow}

@@ -1,6 +1,6 @@
 -- What a state says of each of the people, as lists along them.
 use Rattle.std.specs.Prelude.{ℕ, List, map}
-use Rattle.office_base.specs.declared.asks.Choice.{Choice}
+use Rattle.office_base.specs.declared.choice.Choice.{Choice}
 use Rattle.round_options.specs.declared.standing.Standing.{Standing}
 use Rattle.office_moves.specs.Facts.{SeasonFacts}
 use Rattle.office_moves.specs.State.{State, in_window, left_by, rows_of, standing_at, view_of}

@@ -1,7 +1,7 @@
 -- What a counter at a desk did over the links of a door: they are served.
 use Rattle.std.proofs.Common.{◌≡◌, ◌≤◌, ◌+◌, ◌⊎◌, ℕ, List, [], ◌∷◌, ◌++◌, Option, Result, Ok, Err, length, arith, refl, sym, ap, subst, ◌∙◌}
 use Rattle.office_base.specs.Outside.{Rose}
-use Rattle.office_base.specs.declared.asks.Ask.{Ask}
+use Rattle.office_asks.specs.declared.ask.Ask.{Ask}
 use Rattle.office_desk.specs.Own.{Begins}
 use Rattle.http_asks.specs.Verdicts.{Verdict, refuses, asks}
 use Rattle.http_sessions.specs.Exchange.{Item, Outcome, Goes, Runs, IsAsked, wired, unread, heard}

@@ -1,7 +1,7 @@
 -- A row of doors with a crew: each is served, and all their own entries are those of its links.
 use Rattle.std.proofs.Common.{◌≡◌, ◌+◌, ◌≤◌, inl, inr, ℕ, false, List, [], ◌∷◌, ◌++◌, Option, map, arith, refl, sym, ap, subst, ◌∙◌}
 use Rattle.std.proofs.lemmas.Bool.{or_parts}
-use Rattle.office_base.specs.declared.asks.Ask.{Ask}
+use Rattle.office_asks.specs.declared.ask.Ask.{Ask}
 use Rattle.office_desk.specs.Own.{Begins, AreMerged}
 use Rattle.door_crews.specs.Rows.{AllServed}
 use Rattle.http_sessions.specs.declared.counter.Answered.{Answered}

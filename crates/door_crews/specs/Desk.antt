@@ -1,7 +1,7 @@
 -- An ask at a desk.
 use Rattle.std.specs.Prelude.{◌≡◌, ◌≤◌, ℕ, List, ◌++◌, length, Option, Result, Ok, Err}
 use Rattle.office_base.specs.Outside.{Rose}
-use Rattle.office_base.specs.declared.asks.Ask.{Ask}
+use Rattle.office_asks.specs.declared.ask.Ask.{Ask}
 use Rattle.office_desk.specs.Own.{Begins}
 use Rattle.http_sessions.specs.declared.counter.Answered.{Answered}
 use Rattle.http_wire.specs.declared.faults.Fault.{Fault}

@@ -1,7 +1,7 @@
 -- Links and doors that are served from one history to another.
 use Rattle.std.specs.Prelude.{◌≡◌, ◌≢◌, ◌+◌, ◌≤◌, ◌⊎◌, ℕ, true, List, [], ◌∷◌, ◌++◌, length, Option, Ok, Err}
 use Rattle.office_base.specs.Outside.{AreLeft, Rose}
-use Rattle.office_base.specs.declared.asks.Ask.{Ask}
+use Rattle.office_asks.specs.declared.ask.Ask.{Ask}
 use Rattle.http_sessions.specs.Limits.{most_messages}
 use Rattle.office_links.specs.Visits.{Visits}
 use Rattle.office_links.specs.declared.outside.Door.{Ghosts as DoorGhosts}

@@ -1,7 +1,7 @@
 -- Workers of one crew: what each knows, and whether a door of its own, or of one that it took in, failed.
 use Rattle.std.specs.Prelude.{◌≡◌, ◌+◌, ◌≤◌, ◌⊎◌, ◌||◌, ℕ, Bool, true, false, List, [], ◌++◌, Option}
 use Rattle.office_base.specs.Outside.{Rose}
-use Rattle.office_base.specs.declared.asks.Ask.{Ask}
+use Rattle.office_asks.specs.declared.ask.Ask.{Ask}
 use Rattle.office_desk.specs.Own.{Begins, AreMerged}
 use Rattle.http_sessions.specs.declared.counter.Answered.{Answered}
 use Rattle.http_wire.specs.declared.faults.Fault.{Fault}

@@ -1,6 +1,6 @@
 -- A link that is served where an ask without an answer adds nothing.
 use Rattle.std.proofs.Common.{◌≡◌, ◌+◌, ℕ, List, [], ◌∷◌, ◌++◌, Option, Ok, Err, refl, sym, ap, subst, ◌∙◌}
-use Rattle.office_base.specs.declared.asks.Ask.{Ask}
+use Rattle.office_asks.specs.declared.ask.Ask.{Ask}
 use Rattle.office_desk.specs.Own.{Begins}
 use Rattle.http_asks.specs.Verdicts.{Verdict, refuses, asks}
 use Rattle.http_sessions.specs.Exchange.{Item, Outcome, wired, unread, heard, IsAsked}

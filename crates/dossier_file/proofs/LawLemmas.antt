@@ -6,7 +6,7 @@ use Rattle.std.specs.Option.{unwrap_or}
 use Rattle.std.specs.Prelude.{option_map, slice_get}
 use Rattle.std.specs.Str.{IsUtf8}
 use Rattle.office_base.specs.Codes.{is_code}
-use Rattle.office_base.specs.declared.asks.Request.{Request}
+use Rattle.office_asks.specs.declared.ask.Request.{Request}
 use Rattle.office_base.specs.declared.person.Person.{Person}
 use Rattle.section_rows.specs.Rows.{rows_of}
 use Rattle.section_rows.proofs.StageLemmas.{EndsOnce, not_both, one_err, one_ok, then, then-once}

@@ -3,7 +3,7 @@ use Rattle.std.proofs.Common.{◌≤◌, inl, inr, ℕ, false, List, Option, Ok,
 use Rattle.std.specs.Prelude.{Result, IfErr}
 use Rattle.office_base.specs.Limits.{most_bundle_bytes}
 use Rattle.office_base.specs.Outside.{IsAtEnd, Took}
-use Rattle.office_base.specs.declared.asks.Request.{Request}
+use Rattle.office_asks.specs.declared.ask.Request.{Request}
 use Rattle.text_readers.specs.Reading.{IsTextFault}
 use Rattle.text_readers.specs.declared.fault.TextFault.{TextFault}
 use Rattle.text_readers.specs.declared.fault.TextFault.TheVariants.{Line, OutOfMemory as NoTextMemory}

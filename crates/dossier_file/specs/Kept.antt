@@ -3,7 +3,7 @@ use Rattle.std.specs.Prelude.{◌≢◌, ℕ, List, [], ◌∷◌, Option}
 use Rattle.std.specs.Coded.{×_prop, →_prop, Unit-prop}
 use Rattle.std.specs.List.{AllByRecursion, AllByRecursion-prop}
 use Rattle.office_base.specs.Lists.{Pairwise}
-use Rattle.office_base.specs.declared.asks.Request.{Request}
+use Rattle.office_asks.specs.declared.ask.Request.{Request}
 use Rattle.office_base.specs.declared.person.Person.{Person}
 use Rattle.list_texts.specs.declared.lists.ListRead.{ListRead}
 use Rattle.publish.specs.declared.reads.FinalRead.{FinalRead}

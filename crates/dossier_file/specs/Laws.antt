@@ -1,6 +1,6 @@
 -- That bytes are a dossier or have one first fault, and not both, and that published texts say one thing alone.
 use Rattle.std.specs.Prelude.{◌≡◌, ◌<◌, ◌-◌, ◌^◌, ℕ, List}
-use Rattle.office_base.specs.declared.asks.Request.{Request}
+use Rattle.office_asks.specs.declared.ask.Request.{Request}
 use Rattle.office_base.specs.declared.person.Person.{Person}
 use Rattle.seat_matrix.specs.Matrix.{SeatTable}
 use Rattle.season_file.specs.declared.season.Season.{Season}

@@ -1,7 +1,7 @@
 -- The published texts of a dossier: one after another, as they are due.
 use Rattle.std.specs.Prelude.{◌≡◌, ◌+◌, ℕ, List, [], ◌∷◌, ◌++◌, Some, None, length}
 use Rattle.office_base.specs.declared.person.Person.{Person}
-use Rattle.office_base.specs.declared.asks.Request.{Request}
+use Rattle.office_asks.specs.declared.ask.Request.{Request}
 use Rattle.text_readers.specs.Reading.{Grammar}
 use Rattle.list_texts.specs.Listing.{IsListText}
 use Rattle.list_texts.specs.declared.lists.ListRead.{ListRead}

@@ -2,7 +2,8 @@
 ghost use Rattle.std.specs.Prelude.{◌≡◌, ◌<◌, ◌≤◌, ◌+◌, ◌++◌, IfOk, OnOk};
 ghost use Rattle.dossier_file.specs.Due.{cuts_accepted, due, is_cut_by, published_by};
 
-use office_base::{Ask, By, Listed, OutOfMemory, ProgId, Request};
+use office_asks::{Ask, By, Request};
+use office_base::{Listed, OutOfMemory, ProgId};
 use std::alloc::Global;
 
 /// A text that is due.

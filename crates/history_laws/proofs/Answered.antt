@@ -2,7 +2,7 @@
 use Rattle.std.proofs.Common.{◌≡◌, ◌⊎◌, inl, inr, ℕ, true, List, [], Option, length, arith, sym, refl, ap, ◌∙◌, subst}
 use Rattle.std.specs.Prelude.{is_some}
 use Rattle.std.proofs.lemmas.Bool.{cases_eq, cases_lt, cases_order}
-use Rattle.office_base.specs.declared.asks.Choice.TheVariants.{Withdraw}
+use Rattle.office_base.specs.declared.choice.Choice.TheVariants.{Withdraw}
 use Rattle.office_base.specs.declared.seat.Seat.{Seat}
 use Rattle.kept_rows.specs.declared.rows.AnswerRow.{AnswerRow}
 use Rattle.round_options.specs.Options.{may_follow}

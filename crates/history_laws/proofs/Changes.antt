@@ -1,8 +1,8 @@
 -- What is newly accepted, and what it changes in a state.
 use Rattle.std.proofs.Common.{◌≡◌, ◌<◌, inl, inr, ℕ, List, [], ◌∷◌, Some, refl, sym, ap, ◌∙◌, subst}
-use Rattle.office_base.specs.declared.asks.Ask.{Ask}
-use Rattle.office_base.specs.declared.asks.Ask.TheVariants.{Answer as AskAnswer, Cut as AskCut, Raise as AskRaise}
-use Rattle.office_base.specs.declared.asks.By.{By}
+use Rattle.office_asks.specs.declared.ask.Ask.{Ask}
+use Rattle.office_asks.specs.declared.ask.Ask.TheVariants.{Answer as AskAnswer, Cut as AskCut, Raise as AskRaise}
+use Rattle.office_asks.specs.declared.ask.By.{By}
 use Rattle.kept_rows.specs.declared.rows.AnswerRow.{AnswerRow}
 use Rattle.kept_rows.specs.declared.rows.RaiseRow.{RaiseRow}
 use Rattle.rounds.specs.declared.round.Round.{Round}

@@ -1,7 +1,7 @@
 -- The course of a season, window by window, as a state shows it.
 use Rattle.std.specs.Prelude.{◌≡◌, ◌≤◌, ◌+◌, ◌⊎◌, ℕ, suc, true, List, Some, IsSome, length, map, option_map, slice_get}
-use Rattle.office_base.specs.declared.asks.Choice.{Choice}
-use Rattle.office_base.specs.declared.asks.Choice.TheVariants.{Withdraw}
+use Rattle.office_base.specs.declared.choice.Choice.{Choice}
+use Rattle.office_base.specs.declared.choice.Choice.TheVariants.{Withdraw}
 use Rattle.kept_rows.specs.declared.rows.AllotRow.{AllotRow}
 use Rattle.allocations.specs.Market.{place_of}
 use Rattle.choice_lists.specs.Choices.{list_of}

@@ -1,7 +1,7 @@
 -- What holds of accepted requests and of histories.
 use Rattle.std.specs.Prelude.{◌≡◌, ◌<◌, ◌≤◌, ◌+◌, ℕ, suc, List, Some, None, IsSome, length, map}
 use Rattle.office_base.specs.Numbered.{last_of_numbers}
-use Rattle.office_base.specs.declared.asks.Request.{Request}
+use Rattle.office_asks.specs.declared.ask.Request.{Request}
 use Rattle.seat_matrix.specs.Matrix.{AreSeats, SeatTable, seats_in}
 use Rattle.programme_lists.specs.declared.programme.Programme.{Programme}
 use Rattle.list_cutoffs.specs.Cutoffs.{AreKeptListed}

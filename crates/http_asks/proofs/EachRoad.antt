@@ -4,7 +4,7 @@ use Rattle.std.specs.Fmt.{decimal}
 use Rattle.std.specs.List.{list_all}
 use Rattle.matchit.specs.Seek.{own}
 use Rattle.office_base.specs.Codes.{is_code, is_code_byte}
-use Rattle.office_base.specs.declared.asks.Ask.TheVariants as ask
+use Rattle.office_asks.specs.declared.ask.Ask.TheVariants as ask
 use Rattle.http_asks.specs.Laws.{HasPath, page_text}
 use Rattle.http_asks.specs.Pages.{page_among}
 use Rattle.http_asks.specs.Roads.{Shape, alone, number, number_and_code, all_roads, name_of, page_after, shape_of}

@@ -8,7 +8,7 @@ use Rattle.std.proofs.lemmas.List.{append-nil}
 use Rattle.std.proofs.lemmas.Slice.Eq.{bytes_eq-Decides}
 use Rattle.std.proofs.lemmas.Option.{none-some}
 use Rattle.office_base.specs.Codes.{is_code}
-use Rattle.office_base.specs.declared.asks.Ask.{Ask}
+use Rattle.office_asks.specs.declared.ask.Ask.{Ask}
 use Rattle.office_text.specs.Lines.{split_at_each, onto_first}
 use Rattle.office_text.specs.Names.{code_of}
 use Rattle.office_text.specs.Number.{AreInverse, is_number, number_within, value_of}

@@ -12,7 +12,7 @@ use Rattle.matchit.specs.Router.{InsertsRead, RouteOf, map_key, nearest, route_f
 use Rattle.matchit.specs.declared.error.InsertError.{InsertError}
 use Rattle.matchit.proofs.NearestLemmas.{nearest-rename}
 use Rattle.matchit.proofs.RenameLemmas.{first-rename}
-use Rattle.office_base.specs.declared.asks.Ask.{Ask}
+use Rattle.office_asks.specs.declared.ask.Ask.{Ask}
 use Rattle.office_text.specs.Lines.{split_at_each, onto_first}
 use Rattle.office_text.specs.Number.{number_within}
 use Rattle.http_asks.specs.Pages.{page_at, page_named}

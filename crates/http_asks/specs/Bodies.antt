@@ -6,9 +6,9 @@ use Rattle.serde_json.specs.Data.{Data}
 use Rattle.serde_json.specs.Find.{get, as_number, as_str, as_u64}
 use Rattle.serde_json.specs.Read.{read}
 use Rattle.office_base.specs.Limits.{last_id, last_turn, last_window, most_step_seats}
-use Rattle.office_base.specs.declared.asks.Ask.{Ask}
-use Rattle.office_base.specs.declared.asks.Ask.TheVariants.{Answer, Cut, Raise}
-use Rattle.office_base.specs.declared.asks.Choice.{Choice}
+use Rattle.office_asks.specs.declared.ask.Ask.{Ask}
+use Rattle.office_asks.specs.declared.ask.Ask.TheVariants.{Answer, Cut, Raise}
+use Rattle.office_base.specs.declared.choice.Choice.{Choice}
 use Rattle.office_base.specs.declared.person.CandId.{CandId}
 use Rattle.office_base.specs.declared.step.StepKind.{StepKind}
 use Rattle.office_text.specs.Names.{choice_of, code_of, step_of}

@@ -2,8 +2,8 @@
 use Rattle.std.specs.Prelude.{ℕ, List, [], ◌∷◌, Option, None, Some, codes}
 use Rattle.std.specs.Option.{option_and_then, option_map}
 use Rattle.office_base.specs.Limits.{last_id, last_window}
-use Rattle.office_base.specs.declared.asks.Ask.{Ask}
-use Rattle.office_base.specs.declared.asks.Ask.TheVariants as ask
+use Rattle.office_asks.specs.declared.ask.Ask.{Ask}
+use Rattle.office_asks.specs.declared.ask.Ask.TheVariants as ask
 use Rattle.office_base.specs.declared.person.CandId.{CandId}
 use Rattle.office_text.specs.Names.{code_of}
 use Rattle.office_text.specs.Number.{number_within}

@@ -1,6 +1,6 @@
 -- The verdict on a message: something that it asks, or a status that refuses it.
 use Rattle.std.specs.Prelude.{ℕ, ◌&&◌, Bool, false, List, Option, Some, None, length, nat_lt, bytes_eq, codes, if◌then◌else◌}
-use Rattle.office_base.specs.declared.asks.Ask.{Ask}
+use Rattle.office_asks.specs.declared.ask.Ask.{Ask}
 use Rattle.http_wire.specs.Fields.{Pair, first_value}
 use Rattle.http_wire.specs.Messages.{Message}
 use Rattle.http_wire.specs.Methods.{method_name}

@@ -4,8 +4,9 @@ ghost use Rattle.serde_json.specs.View.{view};
 ghost use Rattle.http_asks.specs.Bodies.{answer_in, ask_in, cut_in, data_of, number_in, raise_in, text_in};
 
 use crate::pages::Page;
+use office_asks::Ask;
 use office_base::limits::{LAST_ID, LAST_TURN, LAST_WINDOW, MOST_STEP_SEATS};
-use office_base::{Ask, CandId, Code, OutOfMemory};
+use office_base::{CandId, Code, OutOfMemory};
 use office_text::{read_choice, read_step};
 use serde_json::Value;
 use std::alloc::Global;

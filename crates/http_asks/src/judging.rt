@@ -9,7 +9,8 @@ use crate::bodies::{ask_in, read_body};
 use crate::pages::{Page, page_of};
 use crate::router::Routes;
 use http_wire::{Fields, HeldMessage, Method};
-use office_base::{Ask, OutOfMemory};
+use office_asks::Ask;
+use office_base::OutOfMemory;
 use std::alloc::Global;
 
 /// The verdict on a message. The connection may continue after either.

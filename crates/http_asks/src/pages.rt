@@ -4,7 +4,7 @@ ghost use Rattle.http_asks.specs.Pages.{method_of, page_of, path_of, takes_body}
 
 use crate::router::Routes;
 use http_wire::Method;
-use office_base::Ask;
+use office_asks::Ask;
 
 /// A page of the office.
 #[derive(Clone, Copy, PartialEq, Eq)]

@@ -8,7 +8,8 @@ ghost use Rattle.http_asks.specs.Router.{IsRouteOf, parameters, road_start};
 
 use crate::pages::Page;
 use crate::pieces::{first_piece, one_piece, read_candidate, read_round, two_pieces};
-use office_base::{Ask, Code};
+use office_asks::Ask;
+use office_base::Code;
 
 /// What the path of a page is for, before its parameters are read.
 #[derive(Clone, Copy, PartialEq, Eq)]

@@ -7,7 +7,7 @@ use Rattle.std.specs.List.{list_any}
 use Rattle.std.specs.Option.{unwrap_or}
 use Rattle.office_base.specs.Outside.{Appends, AreLeft, IsAtEnd, Took}
 use Rattle.office_base.proofs.Streams.{Appends-none, Took-none}
-use Rattle.office_base.specs.declared.asks.Ask.{Ask}
+use Rattle.office_asks.specs.declared.ask.Ask.{Ask}
 use Rattle.http_sessions.specs.Limits.{most_messages}
 use Rattle.http_wire.specs.Messages.{IsTorn, IsUnfinished}
 use Rattle.http_sessions.specs.Exchange.{Item, Outcome, IsItem, Cuts, Goes, Runs, reply_to, replies, is_last, open_before, closes_last, but_last}

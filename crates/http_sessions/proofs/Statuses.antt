@@ -1,6 +1,6 @@
 -- Statuses of refusals have three digits.
 use Rattle.std.proofs.Common.{◌≡◌, inl, inr, ℕ, Bool, true, false, List, Option, Some, None, Result, Ok, Err, if◌then◌else◌, arith, refl, sym, ap, subst, ◌∙◌, bytes_eq, codes}
-use Rattle.office_base.specs.declared.asks.Ask.{Ask}
+use Rattle.office_asks.specs.declared.ask.Ask.{Ask}
 use Rattle.http.specs.StatusCode.{IsStatusCode}
 use Rattle.http_wire.specs.Fields.{Pair, body_len, length_for, shared_length, one_length, values, first_of}
 use Rattle.http_wire.specs.Messages.{Message, IsRefused, pairs}

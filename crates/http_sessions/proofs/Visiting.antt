@@ -1,7 +1,7 @@
 -- One connection more.
 use Rattle.std.proofs.Common.{◌≡◌, ℕ, List, [], ◌∷◌, ◌++◌, Option, Some, None, Result, map, refl, sym, ap, subst, ◌∙◌, append_assoc}
 use Rattle.std.proofs.lemmas.List.{map-append}
-use Rattle.office_base.specs.declared.asks.Ask.{Ask}
+use Rattle.office_asks.specs.declared.ask.Ask.{Ask}
 use Rattle.office_links.specs.Visits.{Visits, GivesFirst, TakesBack}
 use Rattle.http_sessions.specs.Doors.{HasPassed, IsHeld, AreHeld, HasVisited}
 use Rattle.http_sessions.specs.declared.counter.Answered.{Answered}

@@ -1,7 +1,7 @@
 -- The sessions of a door.
 use Rattle.std.specs.Prelude.{◌≡◌, ◌≢◌, ◌+◌, ℕ, List, [], ◌∷◌, ◌++◌, Option, Some, None, Result, map}
 use Rattle.office_base.specs.Outside.{AreLeft, Rose}
-use Rattle.office_base.specs.declared.asks.Ask.{Ask}
+use Rattle.office_asks.specs.declared.ask.Ask.{Ask}
 use Rattle.office_links.specs.Visits.{Visits}
 use Rattle.http_sessions.specs.Sessions.{IsSession, Talk}
 use Rattle.http_sessions.specs.declared.counter.Answered.{Answered}

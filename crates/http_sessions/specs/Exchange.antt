@@ -1,7 +1,7 @@
 -- The messages of a connection, what is asked, and what is replied.
 use Rattle.std.specs.Prelude.{◌≡◌, ◌≤◌, ◌<◌, ◌+◌, ◌==◌, ◌||◌, ◌&&◌, ◌⊎◌, not, ℕ, Bool, true, false, List, [], ◌∷◌, ◌++◌, Option, Some, None, Result, Ok, Err, length, drop}
 use Rattle.std.specs.List.{list_any}
-use Rattle.office_base.specs.declared.asks.Ask.{Ask}
+use Rattle.office_asks.specs.declared.ask.Ask.{Ask}
 use Rattle.office_base.specs.declared.errors.OutOfMemory.{OutOfMemory as Want}
 use Rattle.http_sessions.specs.Limits.{most_messages}
 use Rattle.http_wire.specs.Fields.{closes}

@@ -2,7 +2,7 @@
 use Rattle.std.specs.Prelude.{◌≡◌, ◌≤◌, ◌<◌, ◌+◌, ◌⊎◌, ℕ, Bool, true, false, List, [], ◌∷◌, ◌++◌, Option, Result, length, take}
 use Rattle.std.specs.List.{list_any}
 use Rattle.office_base.specs.Outside.{Appends, Took}
-use Rattle.office_base.specs.declared.asks.Ask.{Ask}
+use Rattle.office_asks.specs.declared.ask.Ask.{Ask}
 use Rattle.http_sessions.specs.Limits.{most_messages}
 use Rattle.office_links.specs.declared.outside.Link.{Ghosts as LinkGhosts}
 use Rattle.http_wire.specs.Messages.{IsTorn, IsUnfinished}

@@ -1,14 +1,15 @@
 // What a session puts its asks to.
 ghost use Rattle.std.specs.Prelude.{◌≡◌, ◌+◌, ◌≤◌, ℕ, List, Ok, Option, Result, option_copied, true};
 ghost use Rattle.std.specs.Borrow.{GName};
-ghost use Rattle.office_base.specs.declared.asks.Ask.{Ask as AnyAsk};
+ghost use Rattle.office_asks.specs.declared.ask.Ask.{Ask as AnyAsk};
 ghost use Rattle.http_sessions.specs.Replies.{is_reply_status};
 ghost use Rattle.http_sessions.specs.declared.counter.Answered.{Answered as AnyAnswered};
 ghost use Rattle.http_wire.specs.declared.faults.Fault.{Fault as AnyFault};
 
 use http::StatusCode;
 use http_wire::Fault;
-use office_base::{Ask, OutOfMemory, Text};
+use office_asks::Ask;
+use office_base::{OutOfMemory, Text};
 use std::alloc::Global;
 
 /// The status of a reply, and its body, for which memory may have run out. What was asked is done either way.

@@ -1,7 +1,7 @@
 -- The numbers of choices are small.
 use Rattle.std.proofs.Common.{◌<◌, ◌^◌, arith}
-use Rattle.office_base.specs.declared.asks.Choice.{Choice}
-use Rattle.office_base.specs.declared.asks.Choice.TheVariants.{Freeze, Float, Slide, Withdraw}
+use Rattle.office_base.specs.declared.choice.Choice.{Choice}
+use Rattle.office_base.specs.declared.choice.Choice.TheVariants.{Freeze, Float, Slide, Withdraw}
 use Rattle.keeper_sqlite.specs.Numbers.{choice_number}
 
 pub small_choice : (choice : Choice) → choice_number choice < 2 ^ 32

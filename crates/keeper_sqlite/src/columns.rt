@@ -2,7 +2,7 @@
 ghost use Rattle.std.specs.Prelude.{ℕ, IfOk, IfErr, OnOk};
 ghost use Rattle.keeper_sqlite.specs.Halts.{WantsMemory};
 ghost use Rattle.keeper_sqlite.specs.Columns.{Holds, IsNumbered, IsChoiceAt, IsSeatKindAt, IsStepAt};
-ghost use Rattle.office_base.specs.declared.asks.Choice.{Choice};
+ghost use Rattle.office_base.specs.declared.choice.Choice.{Choice};
 ghost use Rattle.office_base.specs.declared.seat.SeatKind.{SeatKind};
 ghost use Rattle.office_base.specs.declared.step.StepKind.{StepKind};
 

@@ -107,3 +107,9 @@ length_take_most n xs = let size = length-take n xs in omega (arith, size)
 -- The front of a list that was written whole is what was written.
 pub whole_again : {X : Type 0} (new items : List X) (len : ℕ) → length new ≡ length items → len ≡ length items → take len (new ++ drop (length new) items) ≡ new
 whole_again new items len full same = take_at new (drop (length new) items) len (omega (arith, full, same))
+
+-- what holds of all of a list holds of what is at each place
+pub all_at : {X : Type 0} (P : X → Type 0) (xs : List X) (k : ℕ) (x : X) → AllByRecursion P xs → slice_get xs k ≡ Some x → P x
+all_at P [] k x all at = absurd (cc)
+all_at P (y ∷ xs) zero x all at = let same : y ≡ x = cc in subst P same all.0
+all_at P (y ∷ xs) (suc k) x all at = all_at P xs k x all.1 at

@@ -1,5 +1,5 @@
 -- Each kind of seat has a number, which is its place in the order of the kinds.
-use Rattle.std.proofs.Common.{◌≡◌, ◌<◌, ◌+◌, ◌&&◌, ℕ, zero, suc, Bool, true, false, eqb, List, [], ◌∷◌, Some, None, length, arith, refl, sym, ap, ◌∙◌}
+use Rattle.std.proofs.Common.{◌≡◌, ◌<◌, ◌+◌, ◌&&◌, ℕ, zero, suc, Bool, true, false, eqb, List, [], ◌∷◌, Some, None, length, arith, refl, sym, subst, ap}
 use Rattle.std.proofs.lemmas.Bool.{and_parts, eqb-true}
 use Rattle.std.specs.Prelude.{find, slice_get}
 use Rattle.office_base.specs.declared.seat.SeatKind.{SeatKind}
@@ -34,6 +34,13 @@ numbered_at number (first ∷ kinds) (suc j) kind all at =
 -- the number of a kind of seat is its place
 pub seat_kind_number_at : (j : ℕ) (kind : SeatKind) → slice_get all_seat_kinds j ≡ Some kind → seat_kind_number kind ≡ j
 seat_kind_number_at j kind at = let is = numbered_at 0 all_seat_kinds j kind refl at in omega (arith, is)
+
+-- different kinds have different numbers
+pub one_seat_kind : (kind other : SeatKind) → seat_kind_number kind ≡ seat_kind_number other → kind ≡ other
+one_seat_kind kind other same =
+    let one = seat_kind_at kind in
+    let two = subst (λ n. slice_get all_seat_kinds n ≡ Some other) (sym same) (seat_kind_at other) in
+    cc
 
 -- each is below their count
 pub below_all_kinds : (kind : SeatKind) → seat_kind_number kind < length all_seat_kinds

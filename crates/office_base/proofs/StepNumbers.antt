@@ -85,10 +85,6 @@ found_among test (first ∷ steps) kind found = elim (cases_Bool (test first)) [
   | inr fails ↦ found_among test steps kind (sym (cond-false (test first) (Some first) (find test steps) fails) ∙ found)
 ]
 
--- a step that a search finds passes the test
-pub found_step : (test : StepKind → Bool) (kind : StepKind) → find test all_steps ≡ Some kind → test kind ≡ true
-found_step test kind found = found_among test all_steps kind found
-
 pub none_among : {A : Type 0} (test : A → Bool) (steps : List A) (j : ℕ) (kind : A) → find test steps ≡ None → slice_get steps j ≡ Some kind → test kind ≡ false
 none_among test [] j kind none at = absurd (cc)
 none_among test (first ∷ steps) zero kind none at = elim (cases_Bool (test first)) [
@@ -99,10 +95,6 @@ none_among test (first ∷ steps) (suc j) kind none at = elim (cases_Bool (test 
   | inl holds ↦ absurd (let one : Some first ≡ None = sym (cond-true (test first) (Some first) (find test steps) holds) ∙ none in cc (one))
   | inr fails ↦ none_among test steps j kind (sym (cond-false (test first) (Some first) (find test steps) fails) ∙ none) at
 ]
-
--- where a search finds none, no step passes the test
-pub no_step : (test : StepKind → Bool) → find test all_steps ≡ None → (kind : StepKind) → test kind ≡ false
-no_step test none kind = none_among test all_steps (step_number kind) kind none (kind_at kind)
 
 -- the category of a number
 abbrev category_of : ℕ → Category

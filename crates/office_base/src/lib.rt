@@ -5,9 +5,9 @@
 // decides who is admitted, and none knows of files, of rounds or of programmes.
 #![tactic(auto)]
 
-pub mod asks;
 pub mod booked;
 pub mod category_steps;
+pub mod choice;
 pub mod code;
 pub mod errors;
 pub mod laws;
@@ -29,12 +29,12 @@ pub mod token;
 pub mod whole;
 pub mod words;
 
-pub use asks::{Ask, By, Choice, Request};
 pub use booked::Booked;
 pub use category_steps::{
     ALL_STEPS, CATEGORY_COUNT, CATEGORY_STEPS, CategoryStep, GivesUp, OWN_COUNT, OWN_STEPS,
     STEP_COUNT, gives_up,
 };
+pub use choice::Choice;
 pub use code::Code;
 pub use errors::{Failed, OutOfMemory};
 pub use listed::{Listed, Pairs, People, Text};

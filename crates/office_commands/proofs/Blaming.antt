@@ -3,7 +3,7 @@ use Rattle.std.proofs.Common.{◌≡◌, ◌≢◌, ◌⊎◌, ◌∙◌, ◌≤
 use Rattle.office_base.specs.Outside.{Rose}
 use Rattle.kept_rows.specs.Tables.{Tables, still}
 use Rattle.season_file.specs.declared.season.Season.{Season}
-use Rattle.office_base.specs.declared.asks.Request.{Request}
+use Rattle.office_asks.specs.declared.ask.Request.{Request}
 use Rattle.season_commands.specs.Check.{bundle_answers, check_answers}
 use Rattle.season_commands.specs.Generated.{IsCountedText, IsGeneratedText}
 use Rattle.resume_command.specs.Resume.{EndsResume, IsUnresumedText, script_answers}

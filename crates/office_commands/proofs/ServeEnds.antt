@@ -1,7 +1,7 @@
 -- How the command `serve` ends.
 use Rattle.std.proofs.Common.{◌≡◌, inl, inr, ℕ, true, false, List, [], Option, Err, refl, subst}
 use Rattle.office_base.specs.Outside.{Appends}
-use Rattle.office_base.specs.declared.asks.Request.{Request}
+use Rattle.office_asks.specs.declared.ask.Request.{Request}
 use Rattle.season_file.specs.declared.season.Season.{Season}
 use Rattle.kept_rows.specs.Tables.{Tables, AreTold, IsFound, IsTold as IsTablesTold, still}
 use Rattle.office_moves.specs.Facts.{SeasonFacts}

@@ -5,7 +5,7 @@ use Rattle.std.specs.Fmt.{decimal}
 use Rattle.office_base.specs.FaultLines.{memory_line}
 use Rattle.office_base.specs.Outside.{Rose}
 use Rattle.office_base.specs.Visible.{Readable}
-use Rattle.office_base.specs.declared.asks.Request.{Request}
+use Rattle.office_asks.specs.declared.ask.Request.{Request}
 use Rattle.season_file.specs.declared.season.Season.{Season}
 use Rattle.kept_rows.specs.Tables.{Tables, AreTold, IsFound, still}
 use Rattle.office_moves.specs.Facts.{SeasonFacts}

@@ -1,6 +1,6 @@
 -- What a worker's asks, its split and its join leave of what it knows.
 use Rattle.std.proofs.Common.{◌≡◌, ◌≤◌, ◌⊎◌, ◌==◌, inl, inr, ℕ, Bool, true, false, List, [], ◌∷◌, ◌++◌, Option, Result, arith, refl, sym, ap, subst, ◌∙◌}
-use Rattle.office_base.specs.declared.asks.Ask.{Ask}
+use Rattle.office_asks.specs.declared.ask.Ask.{Ask}
 use Rattle.office_moves.specs.declared.moves.Entry.{Entry}
 use Rattle.http_sessions.specs.declared.counter.Answered.{Answered}
 use Rattle.office_desk.specs.Words.{origin_of}

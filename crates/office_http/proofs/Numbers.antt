@@ -1,7 +1,7 @@
 -- The last number of entries.
 use Rattle.std.proofs.Common.{◌≡◌, ◌≤◌, ◌+◌, ℕ, List, [], ◌∷◌, ◌++◌, Option, Some, None, Result, Ok, Err, map, refl, sym, ap, subst, arith}
 use Rattle.office_base.specs.Numbered.{last_from}
-use Rattle.office_base.specs.declared.asks.Ask.{Ask}
+use Rattle.office_asks.specs.declared.ask.Ask.{Ask}
 use Rattle.keeper_mem.specs.Keeper.{KeeperView}
 use Rattle.office_moves.specs.Decided.{decided}
 use Rattle.office_moves.specs.History.{grown, newly}

@@ -20,8 +20,8 @@ use Rattle.office_moves.specs.History.{grown, newly}
 use Rattle.office_moves.specs.State.{State}
 use Rattle.office_moves.specs.declared.moves.Act.{Act}
 use Rattle.office_http.proofs.Numbers.{last_after}
-use Rattle.office_base.specs.declared.asks.Ask.{Ask}
-use Rattle.office_base.specs.declared.asks.Request.{Request}
+use Rattle.office_asks.specs.declared.ask.Ask.{Ask}
+use Rattle.office_asks.specs.declared.ask.Request.{Request}
 use Rattle.office_moves.specs.Moves.{IsMove}
 use Rattle.proceedings.specs.Proceeding.{last_of}
 use Rattle.http_sessions.specs.declared.counter.Answered.{Answered}

@@ -8,7 +8,7 @@ use Rattle.http_sessions.specs.declared.counter.Answered.{Answered}
 use Rattle.keeper_mem.specs.Keeper.{KeeperView}
 use Rattle.office_http.specs.Asking.{AsksOffice, HasAnswered, HasNotAnswered, IsAnsweredAt, request_of}
 use Rattle.office_base.specs.Outside.{Rose}
-use Rattle.office_base.specs.declared.asks.Ask.{Ask}
+use Rattle.office_asks.specs.declared.ask.Ask.{Ask}
 use Rattle.office_moves.specs.Facts.{SeasonFacts}
 use Rattle.office_moves.specs.Decided.{decided}
 use Rattle.office_moves.specs.History.{grown, newly}

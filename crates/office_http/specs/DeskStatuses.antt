@@ -1,6 +1,6 @@
 -- The status of each answer in a turn is one that replies have.
 use Rattle.std.specs.Prelude.{◌≡◌, Bool, true, ℕ, List, Option, Ok}
-use Rattle.office_base.specs.declared.asks.Ask.{Ask}
+use Rattle.office_asks.specs.declared.ask.Ask.{Ask}
 use Rattle.office_moves.specs.Facts.{SeasonFacts}
 use Rattle.office_moves.specs.declared.moves.Entry.{Entry}
 use Rattle.http_sessions.specs.Replies.{is_reply_status}

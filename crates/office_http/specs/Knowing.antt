@@ -1,7 +1,7 @@
 -- What a pass knows of an office at a desk, and what one ask leaves of that.
 use Rattle.std.specs.Prelude.{◌≡◌, ◌≤◌, ◌++◌, Bool, true, false, ℕ, List, length, Option, Result, Ok, Err}
 use Rattle.office_base.specs.Outside.{Rose}
-use Rattle.office_base.specs.declared.asks.Ask.{Ask}
+use Rattle.office_asks.specs.declared.ask.Ask.{Ask}
 use Rattle.office_base.specs.declared.booked.Booked.{Ghosts}
 use Rattle.office_desk.specs.Own.{Begins}
 use Rattle.office_desk.specs.Words.{count_of, found_of, kept_of, own_of, seen_of, shares_of}

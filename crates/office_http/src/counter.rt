@@ -6,7 +6,7 @@ use crate::putting::{put_to_office, settle_office, token_parts};
 use http_sessions::{Answered, Counter};
 use http_wire::Fault;
 use keeper_mem::Keeper;
-use office_base::Ask;
+use office_asks::Ask;
 use round_cut::Office;
 use std::alloc::Global;
 

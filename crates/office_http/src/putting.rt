@@ -12,7 +12,7 @@ use http::StatusCode;
 use http_sessions::Answered;
 use http_wire::Fault;
 use keeper_mem::Keeper;
-use office_base::{Ask, By, Request};
+use office_asks::{Ask, By, Request};
 use office_moves::Reply;
 use reply_bodies::status_of;
 use round_cut::{Office, OfficeFault};

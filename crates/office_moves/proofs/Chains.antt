@@ -5,9 +5,9 @@ use Rattle.std.proofs.lemmas.Bool.{cond-true, eqb-false, eqb-true, lt-ltb, ltb-f
 use Rattle.office_base.specs.Limits.{most_matrix_seats, most_step_seats, most_turns}
 use Rattle.seat_matrix.specs.Seats.{is_dereserved}
 use Rattle.round_options.specs.Options.{may_follow}
-use Rattle.office_base.specs.declared.asks.By.{By}
-use Rattle.office_base.specs.declared.asks.Choice.{Choice}
-use Rattle.office_base.specs.declared.asks.Choice.TheVariants.{Freeze, Float, Slide, Withdraw}
+use Rattle.office_asks.specs.declared.ask.By.{By}
+use Rattle.office_base.specs.declared.choice.Choice.{Choice}
+use Rattle.office_base.specs.declared.choice.Choice.TheVariants.{Freeze, Float, Slide, Withdraw}
 use Rattle.office_base.specs.declared.person.ProgId.{ProgId}
 use Rattle.kept_rows.specs.declared.rows.AnswerRow.{AnswerRow}
 use Rattle.kept_rows.specs.declared.rows.RaiseRow.{RaiseRow}

@@ -3,11 +3,11 @@
 use Rattle.std.proofs.Common.{◌≡◌, ◌<◌, ◌≤◌, ◌||◌, ◌&&◌, ◌==◌, ◌+◌, ◌-◌, ℕ, zero, suc, Bool, true, false, not, List, Option, Some, None, length, option_map, arith, refl, subst, nat_lt, nat_le, if◌then◌else◌}
 use Rattle.std.proofs.lemmas.Bool.{ltb-false, or_parts}
 use Rattle.office_base.specs.Limits.{most_matrix_seats, most_step_seats, most_turns}
-use Rattle.office_base.specs.declared.asks.Ask.{Ask}
-use Rattle.office_base.specs.declared.asks.Ask.TheVariants.{Answer, Cut, Seat as AskSeat, Why, List as AskList, Round as AskRound, Choices as AskChoices, Cutoffs as AskCutoffs, Register as AskRegister, Answers as AskAnswers, State as AskState, Raise}
-use Rattle.office_base.specs.declared.asks.By.{By}
-use Rattle.office_base.specs.declared.asks.Choice.{Choice}
-use Rattle.office_base.specs.declared.asks.Request.{Request}
+use Rattle.office_asks.specs.declared.ask.Ask.{Ask}
+use Rattle.office_asks.specs.declared.ask.Ask.TheVariants.{Answer, Cut, Seat as AskSeat, Why, List as AskList, Round as AskRound, Choices as AskChoices, Cutoffs as AskCutoffs, Register as AskRegister, Answers as AskAnswers, State as AskState, Raise}
+use Rattle.office_asks.specs.declared.ask.By.{By}
+use Rattle.office_base.specs.declared.choice.Choice.{Choice}
+use Rattle.office_asks.specs.declared.ask.Request.{Request}
 use Rattle.office_base.specs.declared.person.CandId.{CandId}
 use Rattle.office_base.specs.declared.person.ProgId.{ProgId}
 use Rattle.office_base.specs.declared.step.StepKind.{StepKind}

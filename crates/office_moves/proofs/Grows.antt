@@ -2,9 +2,9 @@
 use Rattle.std.proofs.Common.{◌≡◌, ◌<◌, ◌≤◌, ◌+◌, inl, inr, ℕ, zero, suc, Bool, List, [], ◌∷◌, ◌++◌, Some, length, arith, refl, sym, ap, ◌∙◌, subst, if◌then◌else◌, append_assoc, append-nil, length-append}
 use Rattle.std.specs.Prelude.{slice_get}
 use Rattle.std.proofs.lemmas.Bool.{le-ltb}
-use Rattle.office_base.specs.declared.asks.Ask.{Ask}
-use Rattle.office_base.specs.declared.asks.By.{By}
-use Rattle.office_base.specs.declared.asks.Request.{Request}
+use Rattle.office_asks.specs.declared.ask.Ask.{Ask}
+use Rattle.office_asks.specs.declared.ask.By.{By}
+use Rattle.office_asks.specs.declared.ask.Request.{Request}
 use Rattle.kept_rows.specs.declared.rows.AnswerRow.{AnswerRow}
 use Rattle.kept_rows.specs.declared.rows.RaiseRow.{RaiseRow}
 use Rattle.rounds.specs.declared.round.Round.{Round}

@@ -15,8 +15,8 @@ use Rattle.seeks.specs.Seek.{are_together, is_beside, is_left, left_from, seek_l
 use Rattle.seeks.specs.declared.seek.Seek.{Seek}
 use Rattle.seeks.specs.declared.seek.Seek.TheVariants.{Whole, UpTo, Within, Only}
 use Rattle.rounds.proofs.Entrants.{place_at}
-use Rattle.office_base.specs.declared.asks.Choice.{Choice}
-use Rattle.office_base.specs.declared.asks.Choice.TheVariants.{Freeze as ToFreeze, Float as ToFloat, Slide as ToSlide, Withdraw as ToWithdraw}
+use Rattle.office_base.specs.declared.choice.Choice.{Choice}
+use Rattle.office_base.specs.declared.choice.Choice.TheVariants.{Freeze as ToFreeze, Float as ToFloat, Slide as ToSlide, Withdraw as ToWithdraw}
 use Rattle.round_options.specs.Options.{holds, may_follow, seek_after, standing_of}
 use Rattle.round_options.specs.declared.standing.Standing.{Standing}
 use Rattle.round_options.specs.declared.standing.Standing.TheVariants.{Waiting, Offered, Freeze, Float, Slide, Withdrawn, NoShow}

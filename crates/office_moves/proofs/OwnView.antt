@@ -1,6 +1,6 @@
 -- What the office replies to a candidate looks at the candidate's own view.
 use Rattle.std.proofs.Common.{◌≡◌, Some, length, sym, ap, ◌∙◌, subst}
-use Rattle.office_base.specs.declared.asks.Ask.TheVariants.{Answer, Seat, Why, Choices, Register, Answers}
+use Rattle.office_asks.specs.declared.ask.Ask.TheVariants.{Answer, Seat, Why, Choices, Register, Answers}
 use Rattle.office_base.specs.declared.person.CandId.{CandId}
 use Rattle.kept_rows.specs.declared.rows.AnswerRow.{AnswerRow}
 use Rattle.office_moves.specs.Facts.{SeasonFacts, find_programme}

@@ -1,10 +1,10 @@
 -- What each request comes to in a state: what it looks at, and what is judged by that.
 use Rattle.std.specs.Prelude.{ℕ, Bool, true, false, ◌==◌, ◌&&◌, List, Option, Some, None, length, is_some, option_map}
 use Rattle.std.specs.List.{list_any}
-use Rattle.office_base.specs.declared.asks.Ask.{Ask}
-use Rattle.office_base.specs.declared.asks.Ask.TheVariants.{Answer, Cut, Seat as AskSeat, Why, List as AskList, Round as AskRound, Choices as AskChoices, Cutoffs as AskCutoffs, Register as AskRegister, Answers as AskAnswers, State as AskState, Raise}
-use Rattle.office_base.specs.declared.asks.By.{By}
-use Rattle.office_base.specs.declared.asks.Request.{Request}
+use Rattle.office_asks.specs.declared.ask.Ask.{Ask}
+use Rattle.office_asks.specs.declared.ask.Ask.TheVariants.{Answer, Cut, Seat as AskSeat, Why, List as AskList, Round as AskRound, Choices as AskChoices, Cutoffs as AskCutoffs, Register as AskRegister, Answers as AskAnswers, State as AskState, Raise}
+use Rattle.office_asks.specs.declared.ask.By.{By}
+use Rattle.office_asks.specs.declared.ask.Request.{Request}
 use Rattle.office_base.specs.declared.person.CandId.{CandId}
 use Rattle.office_base.specs.declared.person.ProgId.{ProgId}
 use Rattle.office_base.specs.declared.step.StepKind.{StepKind}

@@ -1,9 +1,9 @@
 -- The history of a season: what was accepted, one after another, and the state to which it leads.
 use Rattle.std.specs.Prelude.{◌≡◌, ℕ, true, List, [], ◌∷◌, ◌++◌, Option, Some, None, map}
 use Rattle.office_base.specs.Numbered.{rises}
-use Rattle.office_base.specs.declared.asks.Ask.TheVariants.{Answer as AskAnswer, Cut as AskCut, Raise as AskRaise}
-use Rattle.office_base.specs.declared.asks.By.TheVariants.{Candidate, Clerk}
-use Rattle.office_base.specs.declared.asks.Request.{Request}
+use Rattle.office_asks.specs.declared.ask.Ask.TheVariants.{Answer as AskAnswer, Cut as AskCut, Raise as AskRaise}
+use Rattle.office_asks.specs.declared.ask.By.TheVariants.{Candidate, Clerk}
+use Rattle.office_asks.specs.declared.ask.Request.{Request}
 use Rattle.office_moves.specs.Facts.{SeasonFacts, code_in}
 use Rattle.office_moves.specs.State.{State, opening}
 use Rattle.office_moves.specs.Decided.{decided}

@@ -1,9 +1,9 @@
 -- What holds of moves and of histories, over the definitions alone.
 use Rattle.std.specs.Prelude.{◌≡◌, ℕ, List, Option, Some, None}
-use Rattle.office_base.specs.declared.asks.Ask.{Ask}
-use Rattle.office_base.specs.declared.asks.Ask.TheVariants.{Answer, Cut, Seat, Why, List as AskList, Round as AskRound, Choices, Cutoffs, Register, Answers, State as AskState, Raise}
-use Rattle.office_base.specs.declared.asks.By.{By}
-use Rattle.office_base.specs.declared.asks.Request.{Request}
+use Rattle.office_asks.specs.declared.ask.Ask.{Ask}
+use Rattle.office_asks.specs.declared.ask.Ask.TheVariants.{Answer, Cut, Seat, Why, List as AskList, Round as AskRound, Choices, Cutoffs, Register, Answers, State as AskState, Raise}
+use Rattle.office_asks.specs.declared.ask.By.{By}
+use Rattle.office_asks.specs.declared.ask.Request.{Request}
 use Rattle.office_base.specs.declared.person.CandId.{CandId}
 use Rattle.office_base.specs.declared.person.ProgId.{ProgId}
 use Rattle.seat_matrix.specs.Matrix.{seats_in}

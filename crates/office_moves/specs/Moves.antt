@@ -1,7 +1,7 @@
 -- A move of the office: a request in a state leads to a reply and the next state.
 use Rattle.std.specs.Prelude.{◌≡◌, ◌+◌, ℕ, zero, suc, nat_lt, List, [], ◌∷◌, ◌++◌, Option, Some, None, length, map, option_map, slice_get, if◌then◌else◌}
 use Rattle.std.specs.Option.{unwrap_or}
-use Rattle.office_base.specs.declared.asks.Request.{Request}
+use Rattle.office_asks.specs.declared.ask.Request.{Request}
 use Rattle.office_base.specs.declared.seat.Seat.{Seat}
 use Rattle.office_base.specs.declared.person.CandId.{CandId}
 use Rattle.office_base.specs.declared.person.Person.{Person}

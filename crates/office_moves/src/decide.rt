@@ -5,8 +5,9 @@ ghost use Rattle.office_moves.specs.Judge.{choice_of, judge_answer, judge_cut, j
 
 use crate::refusal::Refusal;
 use kept_rows::{AnswerRow, RaiseRow};
+use office_asks::By;
 use office_base::limits::{MOST_MATRIX_SEATS, MOST_STEP_SEATS, MOST_TURNS};
-use office_base::{By, CandId, Choice, ProgId, StepKind};
+use office_base::{CandId, Choice, ProgId, StepKind};
 use round_options::{Standing, allowed};
 
 /// What a request comes to. The lists of a programme are not copied before it is known that they are asked for.

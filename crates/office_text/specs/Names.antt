@@ -2,8 +2,8 @@
 use Rattle.std.specs.Prelude.{ℕ, ◌||◌, Bool, List, Option, Some, None, bytes_eq, codes, find, if◌then◌else◌}
 use Rattle.office_base.specs.CategorySteps.{own_steps}
 use Rattle.office_base.specs.Codes.{is_code}
-use Rattle.office_base.specs.declared.asks.Choice.{Choice}
-use Rattle.office_base.specs.declared.asks.Choice.TheVariants.{Freeze, Float, Slide, Withdraw}
+use Rattle.office_base.specs.declared.choice.Choice.{Choice}
+use Rattle.office_base.specs.declared.choice.Choice.TheVariants.{Freeze, Float, Slide, Withdraw}
 use Rattle.office_base.specs.declared.person.Category.{Category}
 use Rattle.office_base.specs.declared.person.Category.TheVariants.{Gen, Ews, Obc, Sc, St}
 use Rattle.office_base.specs.declared.seat.SeatKind.{SeatKind}

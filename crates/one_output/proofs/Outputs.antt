@@ -1,6 +1,6 @@
 -- The requests of a bundle have one output.
 use Rattle.std.proofs.Common.{List, [], refl, sym, ◌∙◌, subst}
-use Rattle.office_base.specs.declared.asks.Request.{Request}
+use Rattle.office_asks.specs.declared.ask.Request.{Request}
 use Rattle.office_moves.specs.Facts.{SeasonFacts}
 use Rattle.season_facts.specs.Season.{facts_of}
 use Rattle.office_moves.specs.State.{opening}

@@ -1,6 +1,6 @@
 -- Bytes give one season.
 use Rattle.std.proofs.Common.{◌≡◌, ℕ, Bool, false, List, [], sym, ap, ◌∙◌}
-use Rattle.office_base.specs.declared.asks.Request.{Request}
+use Rattle.office_asks.specs.declared.ask.Request.{Request}
 use Rattle.season_file.specs.Laws.{HaveOneReading}
 use Rattle.season_file.specs.Season.{BundleGives, content_of}
 use Rattle.season_file.specs.declared.content.Content.{Content}

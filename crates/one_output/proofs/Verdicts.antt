@@ -1,7 +1,7 @@
 -- The bytes of a dossier are one, and have one verdict.
 use Rattle.std.proofs.Common.{◌≡◌, ℕ, List, map, arith, sym, ap, subst}
 use Rattle.std.specs.Prelude.{option_map}
-use Rattle.office_base.specs.declared.asks.Request.{Request}
+use Rattle.office_asks.specs.declared.ask.Request.{Request}
 use Rattle.season_file.specs.Season.{IsSeason}
 use Rattle.office_moves.specs.Facts.{SeasonFacts}
 use Rattle.season_facts.specs.Season.{facts_of}

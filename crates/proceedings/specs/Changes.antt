@@ -1,7 +1,7 @@
 -- What changes count, and whom an accepted answer is of.
 use Rattle.std.specs.Prelude.{◌≡◌, ◌+◌, ℕ, Some}
-use Rattle.office_base.specs.declared.asks.Choice.{Choice}
-use Rattle.office_base.specs.declared.asks.Choice.TheVariants.{Freeze, Float, Slide, Withdraw}
+use Rattle.office_base.specs.declared.choice.Choice.{Choice}
+use Rattle.office_base.specs.declared.choice.Choice.TheVariants.{Freeze, Float, Slide, Withdraw}
 use Rattle.kept_rows.specs.declared.rows.AnswerRow.{AnswerRow}
 use Rattle.rank_lists.specs.Register.{row_of}
 use Rattle.office_moves.specs.Decided.{decided}

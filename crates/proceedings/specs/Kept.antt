@@ -1,6 +1,6 @@
 -- What the arrays of the proceedings are.
 use Rattle.std.specs.Prelude.{◌≡◌, ◌≤◌, ◌+◌, ◌-◌, ℕ, List, [], Some, slice_get, vec_len, vec_capacity}
-use Rattle.office_base.specs.declared.asks.Choice.{Choice}
+use Rattle.office_base.specs.declared.choice.Choice.{Choice}
 use Rattle.office_moves.specs.Facts.{IsSound}
 use Rattle.office_moves.specs.History.{IsHistory}
 use Rattle.office_moves.specs.Raised.{matrix_at}

@@ -1,7 +1,7 @@
 -- What the proceedings of a season are: its facts, the history, the state to which the history leads, and room.
 use Rattle.std.specs.Prelude.{◌+◌, ℕ, List, [], ◌∷◌, map, if◌then◌else◌}
 use Rattle.office_base.specs.Numbered.{last_of_numbers}
-use Rattle.office_base.specs.declared.asks.Choice.{Choice}
+use Rattle.office_base.specs.declared.choice.Choice.{Choice}
 use Rattle.office_base.specs.declared.person.CandId.{CandId}
 use Rattle.office_base.specs.declared.person.Person.{Person}
 use Rattle.kept_rows.specs.declared.rows.AnswerRow.{AnswerRow}

@@ -1,6 +1,6 @@
 // What changes the proceedings.
 ghost use Rattle.std.specs.Prelude.{◌≡◌, ◌≤◌, ◌<◌, ◌+◌, ◌∷◌, ◌++◌, [], ◌⊎◌, IfOk, OnOk, length};
-ghost use Rattle.office_base.specs.declared.asks.Choice.{Choice as AnyChoice};
+ghost use Rattle.office_base.specs.declared.choice.Choice.{Choice as AnyChoice};
 ghost use Rattle.office_moves.specs.Decided.{decided};
 ghost use Rattle.office_moves.specs.History.{asked};
 ghost use Rattle.office_moves.specs.Moves.{IsNextRound, final_rows};

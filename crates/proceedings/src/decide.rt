@@ -9,7 +9,8 @@ ghost use Rattle.proceedings.specs.Changes.{IsDecided};
 
 use crate::book::Proceedings;
 use kept_rows::{AnswerRow, RaiseRow};
-use office_base::{Ask, By, CandId, Code, ProgId, Request, StepKind};
+use office_asks::{Ask, By, Request};
+use office_base::{CandId, Code, ProgId, StepKind};
 use office_moves::{
     AnswerFacts, Decision, Question, Refusal, judge_answer, judge_cut, judge_list, judge_own,
     judge_raise, judge_round, judge_why,

@@ -4,7 +4,7 @@ ghost use Rattle.history_laws.specs.Orderly.{AreTurnsAfter};
 ghost use Rattle.office_moves.specs.Moves.{in_windows};
 ghost use Rattle.office_moves.specs.State.{accepted, answered, in_window, last_seat, last_turn, left_by, rows_of, standing_at, view_of};
 ghost use Rattle.rank_lists.specs.Register.{row_of};
-ghost use Rattle.office_base.specs.declared.asks.Choice.{Choice};
+ghost use Rattle.office_base.specs.declared.choice.Choice.{Choice};
 ghost use Rattle.answer_table.specs.Turns.{last_choice};
 ghost use Rattle.proceedings.specs.Proceeding.{choices_in, rows_after, table_along};
 

@@ -9,7 +9,8 @@ ghost use Rattle.proceedings.specs.Told.{copies_nothing, is_repeat};
 
 use crate::book::Proceedings;
 use list_cutoffs::cutoffs_in;
-use office_base::{CandId, Listed, OutOfMemory, ProgId, Request, Seat};
+use office_asks::Request;
+use office_base::{CandId, Listed, OutOfMemory, ProgId, Seat};
 use office_moves::{Decision, Question, Reply};
 use programme_lists::Programme;
 use round_options::Standing;

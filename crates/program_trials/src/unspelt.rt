@@ -4,9 +4,8 @@ ghost use Rattle.season_file.specs.Season.{IsSeason};
 
 use crate::commands::SEASON;
 use keeper_mem::SureKeeper;
-use office_base::{
-    Ask, By, CandId, Choice, Code, MemSink, MemSource, OutOfMemory, Request, StepKind,
-};
+use office_asks::{Ask, By, Request};
+use office_base::{CandId, Choice, Code, MemSink, MemSource, OutOfMemory, StepKind};
 use request_rows::Script;
 use round_cut::Office;
 use season_commands::answer_all;

@@ -1,7 +1,7 @@
 -- No vacancy fills by itself in papers that break no clause.
 use Rattle.std.proofs.Common.{◌≡◌, ◌<◌, ◌≤◌, ◌+◌, ℕ, suc, add-one, List, Option, length, arith, sym, ap, ◌∙◌, subst}
 use Rattle.std.proofs.lemmas.Option.{slice_get_within}
-use Rattle.office_base.specs.declared.asks.Request.{Request}
+use Rattle.office_asks.specs.declared.ask.Request.{Request}
 use Rattle.office_base.specs.declared.seat.Seat.{Seat}
 use Rattle.seat_matrix.specs.Laws.{OneStepChanges}
 use Rattle.office_moves.specs.Facts.{SeasonFacts}

@@ -6,7 +6,7 @@ use Rattle.std.proofs.lemmas.Bool.{ltb-true}
 use Rattle.std.proofs.lemmas.Str.{IsUtf8-from_is_utf8, is_utf8-from_IsUtf8}
 use Rattle.office_base.specs.Limits.{most_bundle_bytes}
 use Rattle.office_base.specs.Outside.{IsAtEnd, Took}
-use Rattle.office_base.specs.declared.asks.Request.{Request}
+use Rattle.office_asks.specs.declared.ask.Request.{Request}
 use Rattle.office_text.specs.Lines.{skip_mark}
 use Rattle.section_rows.specs.Rows.{Row, rows_of}
 use Rattle.section_rows.specs.Steps.{after, needs, unless}

@@ -25,7 +25,7 @@ use Rattle.choice_lists.specs.declared.fault.ChoiceKind.{ChoiceKind}
 use Rattle.choice_lists.specs.declared.fault.ChoiceKind.TheVariants.{BadHeader, UnknownProgramme, RepeatedProgramme, NotRankedThere}
 use Rattle.quota_units.specs.Homes.{Homes}
 use Rattle.office_base.specs.Lists.{IsAmong}
-use Rattle.office_base.specs.declared.asks.Request.{Request}
+use Rattle.office_asks.specs.declared.ask.Request.{Request}
 use Rattle.office_base.proofs.Lists.{all_push, all_among}
 use Rattle.rank_lists.proofs.Known.{found_id}
 use Rattle.choice_lists.proofs.ChoicesLemmas.{new_candidate_ok}

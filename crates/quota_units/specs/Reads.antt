@@ -2,7 +2,7 @@
 use Rattle.std.specs.Prelude.{◌≡◌, ◌≢◌, ◌⊎◌, ℕ, true, List, ◌++◌, Some, Ok, slice_get, option_map}
 use Rattle.std.specs.Fmt.{decimal}
 use Rattle.office_base.specs.Lists.{IsAmong}
-use Rattle.office_base.specs.declared.asks.Request.{Request}
+use Rattle.office_asks.specs.declared.ask.Request.{Request}
 use Rattle.office_base.specs.declared.person.ProgId.{ProgId}
 use Rattle.section_rows.specs.Rows.{Row, rows_of}
 use Rattle.request_rows.specs.Requests.{script_of}

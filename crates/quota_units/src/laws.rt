@@ -3,7 +3,7 @@ ghost use Rattle.std.specs.Prelude.{◌≡◌, ◌≤◌, ℕ, List, Ok, length,
 ghost use Rattle.std.specs.List.{AllByRecursion};
 ghost use Rattle.std.specs.Str.{IsUtf8};
 ghost use Rattle.office_base.specs.Limits.{most_bundle_bytes};
-ghost use Rattle.office_base.specs.declared.asks.Request.{Request};
+ghost use Rattle.office_asks.specs.declared.ask.Request.{Request};
 ghost use Rattle.section_rows.specs.Rows.{Row, rows_of};
 ghost use Rattle.season_file.specs.Replaced.{IsWhole};
 ghost use Rattle.season_file.specs.declared.content.Content.{Content};

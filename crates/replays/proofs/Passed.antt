@@ -3,7 +3,7 @@ use Rattle.std.proofs.Common.{◌≡◌, ◌≢◌, ◌<◌, ◌≤◌, ◌+◌,
 use Rattle.std.specs.Prelude.{slice_get}
 use Rattle.std.proofs.lemmas.Bool.{cases_lt, lt-ltb, ne_eqb, le-ltb}
 use Rattle.std.proofs.lemmas.List.{length_push}
-use Rattle.office_base.specs.declared.asks.By.TheVariants.{Clerk}
+use Rattle.office_asks.specs.declared.ask.By.TheVariants.{Clerk}
 use Rattle.kept_rows.specs.declared.rows.AllotRow.{AllotRow}
 use Rattle.kept_rows.specs.declared.rows.AnswerRow.{AnswerRow}
 use Rattle.kept_rows.specs.declared.rows.Kept.{Kept}

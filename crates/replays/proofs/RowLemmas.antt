@@ -7,8 +7,8 @@ use Rattle.std.proofs.lemmas.Bool.{and_from, and_parts, eqb-true, lt-ltb, ltb-tr
 use Rattle.std.proofs.lemmas.List.{at_drop_all, at_drop_more}
 use Rattle.std.proofs.lemmas.Slice.Eq.{bytes_eq-Decides}
 use Rattle.office_base.specs.Lists.{Pairwise}
-use Rattle.office_base.specs.declared.asks.Ask.TheVariants.{Raise as AskRaise}
-use Rattle.office_base.specs.declared.asks.By.TheVariants.{Candidate, Clerk}
+use Rattle.office_asks.specs.declared.ask.Ask.TheVariants.{Raise as AskRaise}
+use Rattle.office_asks.specs.declared.ask.By.TheVariants.{Candidate, Clerk}
 use Rattle.office_base.specs.declared.person.ProgId.{ProgId}
 use Rattle.kept_rows.specs.declared.rows.AnswerRow.{AnswerRow}
 use Rattle.kept_rows.specs.declared.rows.Kept.{Kept}

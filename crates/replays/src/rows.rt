@@ -14,7 +14,8 @@ ghost use Rattle.replays.specs.declared.fault.ReplayFault.TheVariants.{Stray, St
 
 use crate::fault::ReplayFault;
 use kept_rows::{AnswerRow, Kept, RaiseRow};
-use office_base::{Ask, By, OutOfMemory, Request};
+use office_asks::{Ask, By, Request};
+use office_base::OutOfMemory;
 use office_moves::Decision;
 use proceedings::Proceedings;
 

@@ -1,7 +1,7 @@
 -- Requests that were read, and those that are left.
 use Rattle.std.proofs.Common.{◌≡◌, ◌+◌, ℕ, List, [], ◌∷◌, ◌++◌, Option, Some, None, Result, Ok, Err, refl, ap, sym, ◌∙◌, append_assoc}
 use Rattle.std.proofs.lemmas.List.{append-nil}
-use Rattle.office_base.specs.declared.asks.Request.{Request}
+use Rattle.office_asks.specs.declared.ask.Request.{Request}
 use Rattle.section_rows.specs.Rows.{Row, RowsAhead}
 use Rattle.section_rows.specs.Steps.{after, needs}
 use Rattle.request_rows.specs.Requests.{IsPut, request_of, script_from, script_of}

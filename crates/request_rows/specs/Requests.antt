@@ -2,11 +2,11 @@
 use Rattle.std.specs.Prelude.{◌≡◌, ◌+◌, ℕ, Bool, ◌==◌, ◌&&◌, List, [], ◌∷◌, ◌++◌, Option, Some, None, Result, Ok, Err, length, bytes_eq, codes, if◌then◌else◌}
 use Rattle.std.specs.Option.{option_and_then, option_map}
 use Rattle.office_base.specs.Limits.{last_id, last_turn, last_window, most_step_seats}
-use Rattle.office_base.specs.declared.asks.Ask.{Ask}
-use Rattle.office_base.specs.declared.asks.Ask.TheVariants.{Answer, Cut, Seat, Why, List as ListOf, Round, Choices, Cutoffs, Register, Answers, State, Raise}
-use Rattle.office_base.specs.declared.asks.By.{By}
-use Rattle.office_base.specs.declared.asks.By.TheVariants.{Clerk, Candidate, Nobody}
-use Rattle.office_base.specs.declared.asks.Request.{Request}
+use Rattle.office_asks.specs.declared.ask.Ask.{Ask}
+use Rattle.office_asks.specs.declared.ask.Ask.TheVariants.{Answer, Cut, Seat, Why, List as ListOf, Round, Choices, Cutoffs, Register, Answers, State, Raise}
+use Rattle.office_asks.specs.declared.ask.By.{By}
+use Rattle.office_asks.specs.declared.ask.By.TheVariants.{Clerk, Candidate, Nobody}
+use Rattle.office_asks.specs.declared.ask.Request.{Request}
 use Rattle.office_base.specs.declared.person.CandId.{CandId}
 use Rattle.office_text.specs.Names.{choice_of, code_of, step_of}
 use Rattle.office_text.specs.Number.{number_within}

@@ -2,8 +2,9 @@
 ghost use Rattle.std.specs.Prelude.{◌≡◌};
 ghost use Rattle.request_rows.specs.Requests.{answer_of, ask_of, by_of, candidate_of, is_kind, raise_of, request_of, window_of};
 
+use office_asks::{Ask, By, Request};
 use office_base::limits::{LAST_ID, LAST_TURN, LAST_WINDOW, MOST_STEP_SEATS};
-use office_base::{Ask, By, CandId, Code, Request};
+use office_base::{CandId, Code};
 use office_text::{read_choice, read_number, read_step};
 use section_rows::Rows;
 

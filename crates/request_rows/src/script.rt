@@ -5,7 +5,8 @@ ghost use Rattle.request_rows.specs.Requests.{IsPut, IsScriptFault, request_of, 
 ghost use Rattle.request_rows.specs.declared.script.ScriptFault.TheVariants.{OutOfMemory as NoMemory};
 
 use crate::fields::read_request;
-use office_base::{Listed, OutOfMemory, Request};
+use office_asks::Request;
+use office_base::{Listed, OutOfMemory};
 use section_rows::Rows;
 use std::alloc::Global;
 

@@ -5,7 +5,7 @@ use Rattle.std.specs.Str.{IsUtf8}
 use Rattle.office_base.specs.Limits.{most_bundle_bytes}
 use Rattle.office_base.specs.Outside.{Appends, AreLeft, Rose}
 use Rattle.office_base.specs.Visible.{Readable}
-use Rattle.office_base.specs.declared.asks.Request.{Request}
+use Rattle.office_asks.specs.declared.ask.Request.{Request}
 use Rattle.office_text.specs.Lines.{skip_mark}
 use Rattle.section_rows.specs.Rows.{rows_of}
 use Rattle.request_rows.specs.Requests.{script_of}

@@ -1,7 +1,7 @@
 -- What an office is seen as.
 use Rattle.std.specs.Prelude.{◌≡◌, ◌≤◌, ℕ, Bool, true, false, List, [], Option, Some, None, bytes_eq, if◌then◌else◌}
-use Rattle.office_base.specs.declared.asks.By.{By}
-use Rattle.office_base.specs.declared.asks.By.TheVariants.{Candidate, Clerk, Nobody}
+use Rattle.office_asks.specs.declared.ask.By.{By}
+use Rattle.office_asks.specs.declared.ask.By.TheVariants.{Candidate, Clerk, Nobody}
 use Rattle.office_base.specs.declared.person.CandId.{CandId}
 use Rattle.rank_lists.specs.Register.{find_holder}
 use Rattle.keeper_mem.specs.Keeper.{Blames, KeeperView}

@@ -10,7 +10,7 @@ ghost use Rattle.round_cut.specs.Office.{withdraws};
 use crate::fault::OfficeFault;
 use crate::office::Office;
 use keeper_mem::{SureKeeper, Teller};
-use office_base::Request;
+use office_asks::Request;
 use office_moves::Reply;
 use std::alloc::Global;
 

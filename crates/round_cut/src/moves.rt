@@ -19,7 +19,8 @@ use crate::fault::OfficeFault;
 use crate::office::Office;
 use keeper_mem::Keeper;
 use kept_rows::{AnswerRow, RaiseRow};
-use office_base::{Choice, Request};
+use office_asks::Request;
+use office_base::Choice;
 use office_moves::{Decision, Question, Reply};
 use std::alloc::Global;
 

@@ -1,6 +1,6 @@
 // An office: the proceedings of its season, and the keeper that keeps their records.
 ghost use Rattle.std.specs.Prelude.{◌≡◌, ◌≤◌, [], true, false, None, Some, IfOk, IfErr, OnOk, OnErr, IsErrOf, IsTrue, MatchOption, length, option_copied};
-ghost use Rattle.office_base.specs.declared.asks.By.TheVariants.{Nobody};
+ghost use Rattle.office_asks.specs.declared.ask.By.TheVariants.{Nobody};
 ghost use Rattle.season_file.specs.Season.{IsSeason};
 ghost use Rattle.kept_rows.specs.Tables.{AreTold, IsFound, IsTold, still};
 ghost use Rattle.office_moves.specs.History.{IsHistory};
@@ -16,7 +16,8 @@ ghost use Rattle.round_cut.specs.Office.{Begins, HasRoom, office_over, who_by};
 use crate::fault::{BeginFault, OfficeFault};
 use keeper_mem::Keeper;
 use kept_rows::AllotRow;
-use office_base::{Booked, By};
+use office_asks::By;
+use office_base::Booked;
 use office_moves::Entry;
 use proceedings::Proceedings;
 use rounds::Round;

@@ -1,7 +1,7 @@
 -- Two calls with the same words that find the same end in one way, command by command.
 use Rattle.std.proofs.Common.{◌≡◌, inl, inr, ℕ, Bool, true, false, List, Some, refl, sym, ◌∙◌, subst}
 use Rattle.office_base.specs.Outside.{Appends}
-use Rattle.office_base.specs.declared.asks.Request.{Request}
+use Rattle.office_asks.specs.declared.ask.Request.{Request}
 use Rattle.kept_rows.specs.Tables.{AreTold, IsFound, IsTold, Tables, Untold, NoSeason, Records, still}
 use Rattle.season_file.specs.Season.{IsSeasonWith}
 use Rattle.season_file.specs.declared.season.Season.{Season}

@@ -7,7 +7,7 @@ use Rattle.std.proofs.lemmas.List.{length-append, length-map}
 use Rattle.std.proofs.lemmas.Option.{slice_get_within}
 use Rattle.office_base.proofs.Lists.{all_joined}
 use Rattle.office_base.specs.Lists.{Pairwise}
-use Rattle.office_base.specs.declared.asks.Request.{Request}
+use Rattle.office_asks.specs.declared.ask.Request.{Request}
 use Rattle.office_base.specs.declared.person.Person.{Person}
 use Rattle.allocations.specs.Market.{Seeker, applicants}
 use Rattle.allocations.proofs.Claims.{applicants_may}

@@ -9,7 +9,7 @@ use Rattle.std.proofs.lemmas.Option.{same_Some, slice_get_within}
 use Rattle.office_base.proofs.Lists.{all-get, get-after, get-before, there_is}
 use Rattle.office_base.proofs.People.{at_person-get}
 use Rattle.office_base.specs.Lists.{IsAmong, Pairwise}
-use Rattle.office_base.specs.declared.asks.Request.{Request}
+use Rattle.office_asks.specs.declared.ask.Request.{Request}
 use Rattle.office_base.specs.declared.seat.Seat.{Seat}
 use Rattle.office_base.specs.declared.seat.SeatKind.TheVariants.{Kept, Under}
 use Rattle.office_base.specs.declared.person.Person.{Person}

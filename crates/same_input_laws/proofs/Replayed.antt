@@ -3,7 +3,7 @@ use Rattle.std.proofs.Common.{◌≡◌, ◌+◌, inl, inr, ℕ, zero, suc, Bool
 use Rattle.std.specs.Prelude.{map}
 use Rattle.std.proofs.lemmas.Bool.{cases_lt}
 use Rattle.office_base.specs.Numbered.{last_of_numbers}
-use Rattle.office_base.specs.declared.asks.Request.{Request}
+use Rattle.office_asks.specs.declared.ask.Request.{Request}
 use Rattle.kept_rows.specs.declared.rows.Kept.{Kept}
 use Rattle.office_moves.specs.Decided.{decided}
 use Rattle.office_moves.specs.Facts.{IsSound, SeasonFacts}

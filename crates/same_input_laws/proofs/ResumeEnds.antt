@@ -1,6 +1,6 @@
 -- `resume` writes the same for the same input.
 use Rattle.std.proofs.Common.{◌≡◌, ◌⊎◌, inl, inr, ℕ, List, Some, refl, sym, ◌∙◌, subst}
-use Rattle.office_base.specs.declared.asks.Request.{Request}
+use Rattle.office_asks.specs.declared.ask.Request.{Request}
 use Rattle.kept_rows.specs.Tables.{AreTold, Tables, still}
 use Rattle.kept_rows.specs.declared.rows.Kept.{Kept}
 use Rattle.office_moves.specs.Facts.{IsSound, SeasonFacts}

@@ -1,7 +1,7 @@
 -- A run that stopped and was resumed is the run that did not stop.
 use Rattle.std.proofs.Common.{◌≡◌, ◌++◌, ℕ, List, [], refl, sym, ap, subst, ◌∙◌}
 use Rattle.kept_rows.specs.declared.rows.Kept.{Kept}
-use Rattle.office_base.specs.declared.asks.Request.{Request}
+use Rattle.office_asks.specs.declared.ask.Request.{Request}
 use Rattle.office_moves.specs.Facts.{IsSound, SeasonFacts}
 use Rattle.office_moves.specs.History.{IsHistory}
 use Rattle.office_moves.specs.State.{State, opening}

@@ -1,6 +1,6 @@
 -- `units` writes the same for the same bytes: they result in one plain bundle, and its run writes the same.
 use Rattle.std.proofs.Common.{◌≡◌, inl, inr, ℕ, true, List, Some, Ok, refl, sym, ap, ◌∙◌, subst}
-use Rattle.office_base.specs.declared.asks.Request.{Request}
+use Rattle.office_asks.specs.declared.ask.Request.{Request}
 use Rattle.season_file.specs.Season.{IsSeasonWith, content_of}
 use Rattle.season_file.specs.declared.season.Season.{Season}
 use Rattle.quota_units.specs.Input.{expansion}

@@ -1,6 +1,6 @@
 -- The rounds and the final admissions of a dossier are the office's own, if no clause is broken and each round is the best one.
 use Rattle.std.specs.Prelude.{◌≡◌, ◌+◌, ℕ, List, Some, slice_get}
-use Rattle.office_base.specs.declared.asks.Request.{Request}
+use Rattle.office_asks.specs.declared.ask.Request.{Request}
 use Rattle.kept_rows.specs.declared.rows.AllotRow.{AllotRow}
 use Rattle.season_file.specs.declared.season.Season.{Season}
 use Rattle.rounds.specs.declared.round.Round.{Round}

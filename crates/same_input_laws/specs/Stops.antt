@@ -2,7 +2,7 @@
 use Rattle.std.specs.Prelude.{◌≡◌, ◌++◌, ℕ, List}
 use Rattle.kept_rows.specs.Tables.{Records}
 use Rattle.kept_rows.specs.declared.rows.Kept.{Kept}
-use Rattle.office_base.specs.declared.asks.Request.{Request}
+use Rattle.office_asks.specs.declared.ask.Request.{Request}
 use Rattle.office_moves.specs.Facts.{IsSound, SeasonFacts}
 use Rattle.office_moves.specs.State.{State, opening}
 use Rattle.replays.specs.Replay.{IsReplayed}

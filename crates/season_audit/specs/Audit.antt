@@ -1,6 +1,6 @@
 -- What an audit reads off a dossier, and the state of a replay as the audit keeps it.
 use Rattle.std.specs.Prelude.{◌≡◌, ◌⊎◌, ◌≤◌, ◌+◌, ℕ, List, Option, Some, None, map, option_map, slice_get}
-use Rattle.office_base.specs.declared.asks.Request.{Request}
+use Rattle.office_asks.specs.declared.ask.Request.{Request}
 use Rattle.office_base.specs.declared.step.StepKind.{StepKind}
 use Rattle.list_audit.specs.Clauses.{list_of_step}
 use Rattle.placements.specs.Ranks.{AreDistinct}

@@ -1,7 +1,7 @@
 -- What a request may do to a replay.
 use Rattle.std.specs.Prelude.{◌≡◌, ◌<◌, None, length}
-use Rattle.office_base.specs.declared.asks.By.{By}
-use Rattle.office_base.specs.declared.asks.Request.{Request}
+use Rattle.office_asks.specs.declared.ask.By.{By}
+use Rattle.office_asks.specs.declared.ask.Request.{Request}
 use Rattle.office_moves.specs.Decided.{decide_answer, decide_cut, decide_raise_of, decided}
 use Rattle.office_moves.specs.Facts.{SeasonFacts}
 use Rattle.office_moves.specs.History.{newly}

@@ -1,6 +1,6 @@
 // The replay of a season from its papers.
 ghost use Rattle.std.specs.Prelude.{◌≡◌, ◌↔◌, ◌<◌, ◌≤◌, IfOk, IfSome, IsTrue, OnOk, Some, length, slice_get};
-ghost use Rattle.office_base.specs.declared.asks.Request.{Request as AnyRequest};
+ghost use Rattle.office_asks.specs.declared.ask.Request.{Request as AnyRequest};
 ghost use Rattle.office_moves.specs.Decided.{decide_answer, decide_cut, decide_raise_of, decided};
 ghost use Rattle.office_moves.specs.Facts.{find_programme};
 ghost use Rattle.season_facts.specs.Season.{facts_of};
@@ -18,7 +18,8 @@ use audit_rules::{Fault, Stand, are_final, cut_fault, lifts, seats_told, stands_
 use dossier_file::Dossier;
 use kept_rows::{AnswerRow, RaiseRow};
 use list_audit::Clause;
-use office_base::{Ask, By, Code, OutOfMemory, ProgId, Request};
+use office_asks::{Ask, By, Request};
+use office_base::{Code, OutOfMemory, ProgId};
 use raised_seats::RaisedSeats;
 use season_facts::says_what_is_sound;
 use season_file::Season;

@@ -1,6 +1,6 @@
 // The audit of a dossier.
 ghost use Rattle.std.specs.Prelude.{◌≡◌, ◌≤◌, ◌+◌, ℕ, IfOk, List, length, option_map};
-ghost use Rattle.office_base.specs.declared.asks.Request.{Request};
+ghost use Rattle.office_asks.specs.declared.ask.Request.{Request};
 ghost use Rattle.office_moves.specs.Facts.{SeasonFacts};
 ghost use Rattle.season_facts.specs.Season.{facts_of};
 ghost use Rattle.audit_rules.specs.Fair.{AreFairRounds};

@@ -1,9 +1,9 @@
 -- Each answer is noted or refused, and no other request is counted.
 use Rattle.std.proofs.Common.{◌≡◌, ◌+◌, ◌&&◌, ℕ, Bool, true, false, [], ◌∷◌, Option, Some, None, option_map, cond, if◌then◌else◌, arith, refl, ap, ◌∙◌}
 use Rattle.std.proofs.lemmas.List.Sums.{sum_by-cons}
-use Rattle.office_base.specs.declared.asks.Ask.{Ask}
-use Rattle.office_base.specs.declared.asks.Ask.TheVariants.{Answer, Cut, Raise}
-use Rattle.office_base.specs.declared.asks.By.{By}
+use Rattle.office_asks.specs.declared.ask.Ask.{Ask}
+use Rattle.office_asks.specs.declared.ask.Ask.TheVariants.{Answer, Cut, Raise}
+use Rattle.office_asks.specs.declared.ask.By.{By}
 use Rattle.office_base.specs.declared.person.Person.{Person}
 use Rattle.rank_lists.specs.Register.{find_person}
 use Rattle.kept_rows.specs.declared.rows.AnswerRow.{AnswerRow}

@@ -4,7 +4,7 @@ use Rattle.std.specs.Prelude.{IfOk, IsErrOf, slice_get}
 use Rattle.std.proofs.lemmas.List.{map-append}
 use Rattle.office_base.specs.FaultLines.{memory_line}
 use Rattle.office_base.specs.Outside.{Appends}
-use Rattle.office_base.specs.declared.asks.Request.{Request}
+use Rattle.office_asks.specs.declared.ask.Request.{Request}
 use Rattle.season_file.specs.Laws.{HasFault}
 use Rattle.season_file.specs.Season.{IsSeasonFault, IsSeasonWith}
 use Rattle.season_file.specs.declared.fault.SeasonFault.{SeasonFault}

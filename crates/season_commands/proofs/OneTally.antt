@@ -1,7 +1,7 @@
 -- Requests that are answered after a history have the same replies, and leave one state.
 use Rattle.std.proofs.Common.{◌≡◌, ◌+◌, List, [], ◌∷◌, map, arith, refl, sym, ap, subst, ◌∙◌}
 use Rattle.office_base.specs.Numbered.{last_of_numbers}
-use Rattle.office_base.specs.declared.asks.Request.{Request}
+use Rattle.office_asks.specs.declared.ask.Request.{Request}
 use Rattle.office_moves.specs.Facts.{SeasonFacts}
 use Rattle.office_moves.specs.Decided.{decided}
 use Rattle.office_moves.specs.Moves.{IsMove}

@@ -1,7 +1,7 @@
 -- The command `check`: its input is a season bundle with requests or without, its output how much the season has.
 use Rattle.std.specs.Prelude.{◌≡◌, ℕ, Bool, true, List, Option}
 use Rattle.office_base.specs.Outside.{AreLeft}
-use Rattle.office_base.specs.declared.asks.Request.{Request}
+use Rattle.office_asks.specs.declared.ask.Request.{Request}
 use Rattle.season_file.specs.Laws.{HasFault}
 use Rattle.season_file.specs.Season.{BundleGives, IsSeasonWith}
 use Rattle.season_file.specs.declared.content.Content.{Content}

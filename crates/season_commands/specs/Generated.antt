@@ -2,7 +2,7 @@
 -- over the given keeper and answers the requests of the bundle, and the output is a summary.
 -- Nothing of the summary is written before the last request is answered.
 use Rattle.std.specs.Prelude.{◌≡◌, ◌⊎◌, ℕ, true, false, List, Result, Ok, Err, map, length}
-use Rattle.office_base.specs.declared.asks.Request.{Request}
+use Rattle.office_asks.specs.declared.ask.Request.{Request}
 use Rattle.season_file.specs.Season.{IsSeasonWith}
 use Rattle.season_file.specs.declared.season.Season.{Season}
 use Rattle.kept_rows.specs.Tables.{Tables, AreTold, IsFound, still}

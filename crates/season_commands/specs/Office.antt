@@ -1,6 +1,6 @@
 -- How requests end that are answered over an office, each reply written before the next request is handled.
 use Rattle.std.specs.Prelude.{◌≡◌, ◌⊎◌, ℕ, List, ◌++◌, Err, take}
-use Rattle.office_base.specs.declared.asks.Request.{Request}
+use Rattle.office_asks.specs.declared.ask.Request.{Request}
 use Rattle.kept_rows.specs.Tables.{Tables}
 use Rattle.office_moves.specs.Facts.{SeasonFacts}
 use Rattle.office_moves.specs.State.{State}

@@ -1,7 +1,7 @@
 -- The command `run`: its input is a season bundle with requests or without. An office begins over the given keeper.
 -- The output is the replies to the requests, one after another.
 use Rattle.std.specs.Prelude.{◌≡◌, ◌≢◌, ◌⊎◌, ℕ, true, false, List, Option, codes}
-use Rattle.office_base.specs.declared.asks.Request.{Request}
+use Rattle.office_asks.specs.declared.ask.Request.{Request}
 use Rattle.season_file.specs.declared.season.Season.{Season}
 use Rattle.kept_rows.specs.Tables.{Tables, NoSeason, Records, AreTold, IsFound, still}
 use Rattle.season_facts.specs.Season.{facts_of}

@@ -10,7 +10,8 @@ ghost use Rattle.season_commands.specs.Outside.{BlamesOffice, EndsWith, outside_
 use crate::{RunFault, answer_all};
 use command_answers::{Status, tell_keeper_fault, tell_no_memory};
 use keeper_mem::Keeper;
-use office_base::{Request, Sink};
+use office_asks::Request;
+use office_base::Sink;
 use round_cut::Office;
 use std::alloc::Global;
 

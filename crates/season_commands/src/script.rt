@@ -11,7 +11,8 @@ ghost use Rattle.season_commands.specs.Steps.{Continues, HasAccepted, IsAnswered
 
 use crate::fault::RunFault;
 use keeper_mem::Keeper;
-use office_base::{Request, Sink, write_whole};
+use office_asks::Request;
+use office_base::{Sink, write_whole};
 use office_moves::Reply;
 use round_cut::{Office, OfficeFault};
 use season_facts::says_what_is_sound;

@@ -8,7 +8,7 @@ ghost use Rattle.season_commands.specs.Tally.{CountsAll, StopsBefore, is_receipt
 
 use crate::script::{check_order, next_reply};
 use keeper_mem::Keeper;
-use office_base::{Ask, Request};
+use office_asks::{Ask, Request};
 use office_moves::Reply;
 use round_cut::{Office, OfficeFault};
 use std::alloc::Global;

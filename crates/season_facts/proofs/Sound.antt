@@ -1,7 +1,7 @@
 -- What a season says is sound, where bytes give it.
 use Rattle.std.proofs.Common.{ℕ, Bool, List}
 use Rattle.office_base.proofs.Options.{none_from}
-use Rattle.office_base.specs.declared.asks.Request.{Request}
+use Rattle.office_asks.specs.declared.ask.Request.{Request}
 use Rattle.season_file.specs.Laws.{HaveOneReading}
 use Rattle.season_file.specs.Season.{BundleGives, content_of}
 use Rattle.season_file.specs.declared.season.Season.{Season}

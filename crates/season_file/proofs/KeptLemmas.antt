@@ -5,7 +5,7 @@ use Rattle.std.proofs.lemmas.List.{append-nil, length-append}
 use Rattle.std.proofs.lemmas.Str.{IsUtf8-take, IsCharBoundary-before_ascii}
 use Rattle.std.specs.Str.{IsUtf8}
 use Rattle.office_base.specs.Version.{IsVersion}
-use Rattle.office_base.specs.declared.asks.Request.{Request}
+use Rattle.office_asks.specs.declared.ask.Request.{Request}
 use Rattle.request_rows.specs.Requests.{script_of}
 use Rattle.season_file.specs.Bundle.{Parts, before_requests, bundle_of, season_text}
 use Rattle.season_file.specs.Season.{BundleGives, IsText, SectionsGive, request_rows_of}

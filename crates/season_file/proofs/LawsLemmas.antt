@@ -6,7 +6,7 @@ use Rattle.std.proofs.lemmas.Bool.{cases_Bool, cases_lt}
 use Rattle.std.proofs.lemmas.Str.{IsUtf8-from_is_utf8, is_utf8-from_IsUtf8}
 use Rattle.office_base.specs.declared.person.CandId.{CandId}
 use Rattle.office_base.specs.Limits.{most_bundle_bytes}
-use Rattle.office_base.specs.declared.asks.Request.{Request}
+use Rattle.office_asks.specs.declared.ask.Request.{Request}
 use Rattle.section_rows.specs.Rows.{Row, rows_of}
 use Rattle.section_rows.proofs.StageLemmas.{EndsOnce, gives, gives-once, reads, reads-once, then, then-once}
 use Rattle.request_rows.specs.Requests.{script_of}

@@ -1,6 +1,6 @@
 -- That bytes give one season with its requests, which is sound, or have one fault.
 use Rattle.std.specs.Prelude.{◌≡◌, ◌⊎◌, ℕ, Bool, List}
-use Rattle.office_base.specs.declared.asks.Request.{Request}
+use Rattle.office_asks.specs.declared.ask.Request.{Request}
 use Rattle.rank_lists.specs.Register.{AreRanks}
 use Rattle.seat_matrix.specs.Laws.{AreCodes}
 use Rattle.seat_matrix.specs.Matrix.{AreSeats, codes_in}

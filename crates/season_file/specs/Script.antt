@@ -4,7 +4,7 @@ use Rattle.std.specs.Str.{IsUtf8}
 use Rattle.office_base.specs.Limits.{most_bundle_bytes}
 use Rattle.office_base.specs.Outside.{IsAtEnd, Took, TookMore}
 use Rattle.office_text.specs.Lines.{skip_mark}
-use Rattle.office_base.specs.declared.asks.Request.{Request}
+use Rattle.office_asks.specs.declared.ask.Request.{Request}
 use Rattle.section_rows.specs.Rows.{rows_of}
 use Rattle.request_rows.specs.Requests.{script_of}
 use Rattle.season_file.specs.Season.{IsText}

@@ -6,11 +6,11 @@ use Rattle.std.specs.List.{AllByRecursion, flat_map, range_with_len}
 use Rattle.std.proofs.lemmas.Bool.{false_from_ne_true}
 use Rattle.std.proofs.lemmas.Slice.Eq.{bytes_eq-Decides}
 use Rattle.office_base.specs.Limits.{last_id, last_window}
-use Rattle.office_base.specs.declared.asks.Ask.TheVariants.{Answer, Cut}
-use Rattle.office_base.specs.declared.asks.By.TheVariants.{Candidate, Clerk}
-use Rattle.office_base.specs.declared.asks.Choice.{Choice}
-use Rattle.office_base.specs.declared.asks.Choice.TheVariants.{Float, Freeze, Slide, Withdraw}
-use Rattle.office_base.specs.declared.asks.Request.{Request}
+use Rattle.office_asks.specs.declared.ask.Ask.TheVariants.{Answer, Cut}
+use Rattle.office_asks.specs.declared.ask.By.TheVariants.{Candidate, Clerk}
+use Rattle.office_base.specs.declared.choice.Choice.{Choice}
+use Rattle.office_base.specs.declared.choice.Choice.TheVariants.{Float, Freeze, Slide, Withdraw}
+use Rattle.office_asks.specs.declared.ask.Request.{Request}
 use Rattle.office_text.specs.Names.{choice_of}
 use Rattle.office_text.specs.Number.{AreInverse, number_within}
 use Rattle.section_rows.specs.Rows.{Row}

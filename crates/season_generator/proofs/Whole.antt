@@ -5,7 +5,7 @@ use Rattle.std.specs.List.{range_with_len}
 use Rattle.std.specs.List.Sorted.{IsPermutation}
 use Rattle.std.proofs.lemmas.Str.{IsUtf8-from_ascii}
 use Rattle.office_base.specs.Limits.{most_bundle_bytes}
-use Rattle.office_base.specs.declared.asks.Request.{Request}
+use Rattle.office_asks.specs.declared.ask.Request.{Request}
 use Rattle.office_text.specs.Number.{AreInverse}
 use Rattle.section_rows.specs.Rows.{Row}
 use Rattle.section_rows.specs.Table.{Given}

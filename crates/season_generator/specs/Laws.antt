@@ -1,7 +1,7 @@
 -- That a season that is made up is a season bundle, and has no fault.
 use Rattle.std.specs.Prelude.{◌≤◌, ℕ, true, List}
 use Rattle.office_base.specs.Limits.{most_generated}
-use Rattle.office_base.specs.declared.asks.Request.{Request}
+use Rattle.office_asks.specs.declared.ask.Request.{Request}
 use Rattle.season_generator.specs.Bundle.{generated}
 use Rattle.season_file.specs.Laws.{HasFault}
 use Rattle.season_file.specs.Season.{BundleGives}

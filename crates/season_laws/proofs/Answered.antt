@@ -1,8 +1,8 @@
 -- Every request in a state in which all is in order has a reply and a next state.
 use Rattle.std.proofs.Common.{◌≡◌, ◌<◌, ◌≤◌, ◌+◌, ℕ, zero, suc, true, Option, Some, None, is_some, option_map, length, arith, refl, ap, ◌∙◌}
-use Rattle.office_base.specs.declared.asks.Ask.{Ask}
-use Rattle.office_base.specs.declared.asks.Ask.TheVariants.{Answer, Cut, Raise}
-use Rattle.office_base.specs.declared.asks.By.{By}
+use Rattle.office_asks.specs.declared.ask.Ask.{Ask}
+use Rattle.office_asks.specs.declared.ask.Ask.TheVariants.{Answer, Cut, Raise}
+use Rattle.office_asks.specs.declared.ask.By.{By}
 use Rattle.office_base.specs.declared.person.Person.{Person}
 use Rattle.office_base.specs.declared.person.ProgId.{ProgId}
 use Rattle.office_base.proofs.Lists.{there_is}

@@ -1,7 +1,7 @@
 -- The reply to each request is a function of what it looks at.
 use Rattle.std.proofs.Common.{◌≡◌, ◌∙◌, ℕ, suc, List, [], Some, None, length, option_map, sym, ap, subst}
-use Rattle.office_base.specs.declared.asks.Ask.TheVariants.{Choices, Register}
-use Rattle.office_base.specs.declared.asks.By.{By}
+use Rattle.office_asks.specs.declared.ask.Ask.TheVariants.{Choices, Register}
+use Rattle.office_asks.specs.declared.ask.By.{By}
 use Rattle.office_base.specs.declared.step.StepKind.{StepKind}
 use Rattle.kept_rows.specs.declared.rows.AnswerRow.{AnswerRow}
 use Rattle.kept_rows.specs.declared.rows.RaiseRow.{RaiseRow}

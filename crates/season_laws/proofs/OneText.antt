@@ -10,8 +10,8 @@ use Rattle.std.specs.Prelude.{bytes_eq, codes}
 use Rattle.kept_rows.specs.declared.rows.AnswerRow.{AnswerRow}
 use Rattle.list_cutoffs.specs.declared.cutoffs.StepCutoff.{StepCutoff}
 use Rattle.office_base.specs.Person.{IsTraitSet}
-use Rattle.office_base.specs.declared.asks.Choice.{Choice}
-use Rattle.office_base.specs.declared.asks.Choice.TheVariants.{Freeze, Float, Slide, Withdraw}
+use Rattle.office_base.specs.declared.choice.Choice.{Choice}
+use Rattle.office_base.specs.declared.choice.Choice.TheVariants.{Freeze, Float, Slide, Withdraw}
 use Rattle.office_base.specs.declared.person.Category.{Category}
 use Rattle.office_base.specs.declared.person.Category.TheVariants.{Gen, Ews, Obc, Sc, St}
 use Rattle.office_base.specs.declared.person.Person.{Person}

@@ -2,7 +2,7 @@
 use Rattle.std.proofs.Common.{◌≡◌, ◌||◌, ◌==◌, ◌∙◌, ℕ, zero, suc, Bool, true, false, List, Option, Some, None, length, nat_lt, option_map, arith, sym, ap, subst}
 use Rattle.std.proofs.lemmas.Bool.{eqb-true, le-ltb, ne_eqb}
 use Rattle.std.proofs.lemmas.Option.{slice_get_within}
-use Rattle.office_base.specs.declared.asks.Ask.TheVariants.{List as AskList, Cutoffs}
+use Rattle.office_asks.specs.declared.ask.Ask.TheVariants.{List as AskList, Cutoffs}
 use Rattle.office_base.specs.declared.person.ProgId.{ProgId}
 use Rattle.seat_matrix.specs.Matrix.{seats_in}
 use Rattle.programme_lists.specs.declared.programme.Programme.{Programme}

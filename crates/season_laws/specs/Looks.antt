@@ -1,8 +1,8 @@
 -- At what the office looks when it replies to the clerk, and to anybody who asks.
 use Rattle.std.specs.Prelude.{◌≡◌, ◌==◌, ℕ, Bool, true, false, List, Some, length}
-use Rattle.office_base.specs.declared.asks.Ask.{Ask}
-use Rattle.office_base.specs.declared.asks.Ask.TheVariants.{List as AskList, Round as AskRound, Choices, Cutoffs, Register, Answers, State as AskState, Raise}
-use Rattle.office_base.specs.declared.asks.By.{By}
+use Rattle.office_asks.specs.declared.ask.Ask.{Ask}
+use Rattle.office_asks.specs.declared.ask.Ask.TheVariants.{List as AskList, Round as AskRound, Choices, Cutoffs, Register, Answers, State as AskState, Raise}
+use Rattle.office_asks.specs.declared.ask.By.{By}
 use Rattle.office_base.specs.declared.person.CandId.{CandId}
 use Rattle.office_base.specs.declared.step.StepKind.{StepKind}
 use Rattle.rounds.specs.declared.round.Round.{Round}

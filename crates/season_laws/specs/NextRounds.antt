@@ -1,5 +1,5 @@
 -- That every round is there, and so every reply.
-use Rattle.office_base.specs.declared.asks.Request.{Request}
+use Rattle.office_asks.specs.declared.ask.Request.{Request}
 use Rattle.office_moves.specs.Facts.{IsSound, SeasonFacts}
 use Rattle.office_moves.specs.State.{State}
 use Rattle.office_moves.specs.Moves.{IsMove, IsNextRound}

@@ -2,13 +2,14 @@
 -- candidate is one. Anyone who asks why gets an answer.
 use Rattle.std.specs.Prelude.{◌≡◌, ◌++◌, ℕ, Bool, true, false, List, [], ◌∷◌, Some, None, codes, map}
 use Rattle.office_base.specs.CategorySteps.{category_steps}
-use Rattle.office_base.specs.declared.asks.Ask.TheVariants.{Why, List as AskList}
-use Rattle.office_base.specs.declared.asks.By.{By}
-use Rattle.office_base.specs.declared.asks.By.TheVariants.{Clerk, Candidate, Nobody}
-use Rattle.office_base.specs.declared.asks.Request.{Request}
+use Rattle.office_asks.specs.declared.ask.Ask.TheVariants.{Why, List as AskList}
+use Rattle.office_asks.specs.declared.ask.By.{By}
+use Rattle.office_asks.specs.declared.ask.By.TheVariants.{Clerk, Candidate, Nobody}
+use Rattle.office_asks.specs.declared.ask.Request.{Request}
 use Rattle.office_base.specs.declared.person.Category.TheVariants.{Gen}
 use Rattle.office_base.specs.declared.person.Person.{Person}
 use Rattle.office_base.specs.declared.person.Place.TheVariants.{Absent, Common}
+use Rattle.office_base.specs.declared.seat.SeatKind.TheVariants.{Under}
 use Rattle.office_base.specs.declared.step.StepKind.{StepKind}
 use Rattle.office_base.specs.declared.step.StepKind.TheVariants.{Open, Dereserved}
 use Rattle.seat_matrix.specs.Seats.{no_seatings, with_seating}
@@ -87,4 +88,4 @@ CausesAreTold =
     (run_of season (round ∷ []) (own 3 (codes "P") ∷ cut 0 ∷ own 3 (codes "P") ∷ own 5 (codes "P") ∷ own 4 (codes "P") ∷ own 3 (codes "Q") ∷ own 3 (codes "Z")
     ∷ why (Candidate (cand 5)) 3 (codes "P") ∷ why Clerk 99 (codes "P") ∷ list 2 (codes "P") ∷ list 1 (codes "P") ∷ [])).replies
     ≡ ListIs 1 (prog 0) admitting ∷ Refused (NoSuchRound 1) ∷ Refused UnknownCandidate ∷ Refused (Denied 3) ∷ Refused UnknownProgramme ∷ Refused NotChosen
-    ∷ WhyIs (cand 4) (prog 0) (Because (Admitted Open)) ∷ WhyIs (cand 5) (prog 0) (refused_at false) ∷ WhyIs (cand 3) (prog 0) (refused_at true) ∷ Published 1 3 ∷ Refused (NoSuchRound 0) ∷ []
+    ∷ WhyIs (cand 4) (prog 0) (Because (Admitted (Under Open))) ∷ WhyIs (cand 5) (prog 0) (refused_at false) ∷ WhyIs (cand 3) (prog 0) (refused_at true) ∷ Published 1 3 ∷ Refused (NoSuchRound 0) ∷ []

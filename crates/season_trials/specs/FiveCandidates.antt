@@ -1,12 +1,13 @@
 -- A season of five candidates for four programmes of one open seat each, and scripts of it.
 use Rattle.std.specs.Prelude.{◌≡◌, ℕ, List, [], ◌∷◌, ◌++◌, Option, Some, None, codes}
-use Rattle.office_base.specs.declared.asks.Ask.TheVariants.{Answer, Cut, Seat as AskSeat, Why, State as AskState, Raise}
-use Rattle.office_base.specs.declared.asks.By.{By}
-use Rattle.office_base.specs.declared.asks.By.TheVariants.{Clerk, Candidate, Nobody}
-use Rattle.office_base.specs.declared.asks.Choice.{Choice}
-use Rattle.office_base.specs.declared.asks.Choice.TheVariants.{Freeze, Float, Slide, Withdraw}
-use Rattle.office_base.specs.declared.asks.Request.{Request}
+use Rattle.office_asks.specs.declared.ask.Ask.TheVariants.{Answer, Cut, Seat as AskSeat, Why, State as AskState, Raise}
+use Rattle.office_asks.specs.declared.ask.By.{By}
+use Rattle.office_asks.specs.declared.ask.By.TheVariants.{Clerk, Candidate, Nobody}
+use Rattle.office_base.specs.declared.choice.Choice.{Choice}
+use Rattle.office_base.specs.declared.choice.Choice.TheVariants.{Freeze, Float, Slide, Withdraw}
+use Rattle.office_asks.specs.declared.ask.Request.{Request}
 use Rattle.office_base.specs.declared.seat.Seat.{Seat}
+use Rattle.office_base.specs.declared.seat.SeatKind.TheVariants.{Under}
 use Rattle.office_base.specs.declared.person.CandId.{CandId}
 use Rattle.office_base.specs.declared.person.Category.TheVariants.{Gen}
 use Rattle.office_base.specs.declared.person.Person.{Person}
@@ -65,7 +66,7 @@ season = record {
 -- ---- rounds, requests and replies
 
 abbrev pub seat : ℕ → Option Seat
-seat n = Some (record { prog = prog n; step = Open })
+seat n = Some (record { prog = prog n; step = Under Open })
 
 abbrev pub round : ℕ → List Seek → List (Option Seat) → Round
 round number seeks seats = record { number = number; seeks = seeks; seats = seats; programmes = [] }
@@ -136,7 +137,7 @@ abbrev pub state_row : Request
 state_row = record { by = Nobody; ask = AskState }
 
 abbrev pub final_row : ℕ → ℕ → AllotRow
-final_row id n = record { round = 3; cand = cand id; prog = prog n; step = Open }
+final_row id n = record { round = 3; cand = cand id; prog = prog n; step = Under Open }
 
 abbrev pub NoShowIsLost : Type 0
 NoShowIsLost =

@@ -3,7 +3,8 @@ use crate::messages::{bare, joined, repeated, with_body};
 use http_asks::{Judged, Routes, judge, token};
 use http_wire::{Arrived, Method, held_message};
 use httparse::spans::EMPTY_HEADER_SPAN;
-use office_base::{Ask, CandId, Choice, Code, StepKind};
+use office_asks::Ask;
+use office_base::{CandId, Choice, Code, StepKind};
 use std::alloc::Global;
 
 /// A refusal that the trials expect.

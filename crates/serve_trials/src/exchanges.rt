@@ -5,7 +5,8 @@ use crate::replies::{answer, refuse};
 use http_asks::{Judged, Routes, judge, token};
 use http_wire::{Arrived, HeldMessage, Outbox, held_message};
 use httparse::spans::EMPTY_HEADER_SPAN;
-use office_base::{Ask, CandId, Choice};
+use office_asks::Ask;
+use office_base::{CandId, Choice};
 use office_links::{Link, MemLink, write_link};
 use std::alloc::Global;
 

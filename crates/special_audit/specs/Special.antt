@@ -1,8 +1,8 @@
 -- The papers of a special round, as a dossier of the season that the final admissions left.
 use Rattle.std.specs.Prelude.{◌≡◌, ◌≢◌, ℕ, List, [], ◌∷◌, length}
-use Rattle.office_base.specs.declared.asks.Ask.TheVariants.{Cut}
-use Rattle.office_base.specs.declared.asks.By.TheVariants.{Clerk}
-use Rattle.office_base.specs.declared.asks.Request.{Request}
+use Rattle.office_asks.specs.declared.ask.Ask.TheVariants.{Cut}
+use Rattle.office_asks.specs.declared.ask.By.TheVariants.{Clerk}
+use Rattle.office_asks.specs.declared.ask.Request.{Request}
 use Rattle.season_file.specs.declared.season.Season.{Season}
 use Rattle.season_facts.specs.Season.{facts_of}
 use Rattle.office_moves.specs.State.{State}

@@ -9,7 +9,8 @@ ghost use Rattle.special_audit.specs.declared.special.SpecialError.TheVariants.{
 
 use best_audit::take_next;
 use dossier_file::Dossier;
-use office_base::{Ask, By, OutOfMemory, Request};
+use office_asks::{Ask, By, Request};
+use office_base::OutOfMemory;
 use request_rows::Script;
 use season_audit::Auditor;
 use season_file::Season;

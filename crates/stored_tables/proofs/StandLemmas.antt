@@ -9,12 +9,11 @@ use Rattle.sqlite.specs.Tree.{rowid}
 use Rattle.office_base.specs.CategorySteps.{step_of_number}
 use Rattle.office_base.specs.SeatKinds.{seat_kind_number, seat_kind_of_number}
 use Rattle.office_base.specs.StepNumbers.{step_number}
-use Rattle.office_base.specs.declared.asks.Choice.{Choice}
-use Rattle.office_base.specs.declared.asks.Choice.TheVariants.{Freeze, Float, Slide, Withdraw}
+use Rattle.office_base.specs.declared.choice.Choice.{Choice}
+use Rattle.office_base.specs.declared.choice.Choice.TheVariants.{Freeze, Float, Slide, Withdraw}
 use Rattle.office_base.specs.declared.seat.SeatKind.{SeatKind}
 use Rattle.office_base.specs.declared.step.StepKind.{StepKind}
-use Rattle.office_base.proofs.SeatKinds.{seat_kind_number_at}
-use Rattle.kept_rows.proofs.SeatKinds.{one_seat_kind}
+use Rattle.office_base.proofs.SeatKinds.{one_seat_kind, seat_kind_number_at}
 use Rattle.office_base.proofs.StepNumbers.{number_at, one_number}
 use Rattle.kept_rows.specs.declared.rows.AnswerRow.{AnswerRow}
 use Rattle.kept_rows.specs.declared.rows.AllotRow.{AllotRow}

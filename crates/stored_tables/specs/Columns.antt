@@ -4,7 +4,7 @@ use Rattle.sqlite.specs.Order.{Row, column}
 use Rattle.sqlite.specs.declared.types.Value.TheVariants.{Int, Blob}
 use Rattle.office_base.specs.SeatKinds.{seat_kind_number}
 use Rattle.office_base.specs.StepNumbers.{step_number}
-use Rattle.office_base.specs.declared.asks.Choice.{Choice}
+use Rattle.office_base.specs.declared.choice.Choice.{Choice}
 use Rattle.office_base.specs.declared.seat.SeatKind.{SeatKind}
 use Rattle.office_base.specs.declared.step.StepKind.{StepKind}
 use Rattle.kept_rows.specs.declared.rows.AnswerRow.{AnswerRow}

@@ -1,7 +1,7 @@
 -- The numbers that stand for choices in the tables.
 use Rattle.std.specs.Prelude.{◌≡◌, ◌==◌, ℕ, Option, Some, None, if◌then◌else◌}
-use Rattle.office_base.specs.declared.asks.Choice.{Choice}
-use Rattle.office_base.specs.declared.asks.Choice.TheVariants.{Freeze, Float, Slide, Withdraw}
+use Rattle.office_base.specs.declared.choice.Choice.{Choice}
+use Rattle.office_base.specs.declared.choice.Choice.TheVariants.{Freeze, Float, Slide, Withdraw}
 
 abbrev pub choice_number : Choice → ℕ
 choice_number Freeze = 0

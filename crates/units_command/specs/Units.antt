@@ -2,7 +2,7 @@
 use Rattle.std.specs.Prelude.{◌≡◌, ◌⊎◌, ℕ, true, List, Option, Some, Ok, Err}
 use Rattle.office_base.specs.Lists.{IsAmong}
 use Rattle.office_base.specs.Outside.{AreLeft}
-use Rattle.office_base.specs.declared.asks.Request.{Request}
+use Rattle.office_asks.specs.declared.ask.Request.{Request}
 use Rattle.office_base.specs.declared.seat.Seat.{Seat}
 use Rattle.season_file.specs.Season.{IsSeasonWith}
 use Rattle.season_file.specs.declared.season.Season.{Season}

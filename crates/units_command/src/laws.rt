@@ -1,6 +1,6 @@
 // What holds of two runs of the command on a bundle with home-state quotas, and of who has a seat in a unit.
 ghost use Rattle.std.specs.Prelude.{◌≡◌, ℕ, List, true};
-ghost use Rattle.office_base.specs.declared.asks.Request.{Request};
+ghost use Rattle.office_asks.specs.declared.ask.Request.{Request};
 ghost use Rattle.quota_units.specs.Expansion.{IsExpansion};
 ghost use Rattle.season_file.specs.Season.{IsSeasonWith};
 ghost use Rattle.season_file.specs.declared.season.Season.{Season};

@@ -1,6 +1,6 @@
 use Rattle.std.proofs.Common.{◌≡◌, ◌++◌, List, Some, take}
 use Rattle.std.specs.Prelude.{slice_get}
-use Rattle.office_base.specs.declared.asks.Choice.{Choice}
+use Rattle.office_base.specs.declared.choice.Choice.{Choice}
 use Rattle.proceedings.specs.Proceeding.{rows_after}
 use Rattle.proceedings.proofs.looks.push_turns.Given as goal
 

@@ -1,5 +1,5 @@
 use Rattle.std.proofs.Common.{List, sym, subst, arith}
-use Rattle.office_base.specs.declared.asks.Request.{Request}
+use Rattle.office_asks.specs.declared.ask.Request.{Request}
 use Rattle.text_readers.specs.Reading.{IsTextFault}
 use Rattle.season_file.specs.Season.{content_of}
 use Rattle.dossier_file.specs.Dossier.{IsBytesFault}

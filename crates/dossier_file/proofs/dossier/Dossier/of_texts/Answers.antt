@@ -1,5 +1,5 @@
 use Rattle.std.proofs.Common.{List, subst}
-use Rattle.office_base.specs.declared.asks.Request.{Request}
+use Rattle.office_asks.specs.declared.ask.Request.{Request}
 use Rattle.dossier_file.specs.Papers.{AreDuePapers}
 use Rattle.dossier_file.proofs.dossier.Dossier.of_texts.Goals as goal
 

@@ -1,5 +1,5 @@
 use Rattle.std.proofs.Common.{List, arith, length, sym, ap, ◌∙◌}
-use Rattle.office_base.specs.declared.asks.Choice.{Choice}
+use Rattle.office_base.specs.declared.choice.Choice.{Choice}
 use Rattle.answer_table.specs.Turns.{no_turns}
 use Rattle.season_facts.specs.Season.{facts_of}
 use Rattle.proceedings.specs.Kept.{state_of}

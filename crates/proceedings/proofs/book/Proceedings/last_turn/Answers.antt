@@ -1,6 +1,6 @@
 use Rattle.std.proofs.Common.{◌≡◌, ℕ, Some, length, ap, subst}
 use Rattle.std.specs.Prelude.{option_map, slice_get}
-use Rattle.office_base.specs.declared.asks.Choice.{Choice}
+use Rattle.office_base.specs.declared.choice.Choice.{Choice}
 use Rattle.std.specs.Prelude.{List}
 use Rattle.office_base.specs.declared.person.Person.{Person}
 use Rattle.office_moves.specs.State.{in_window, last_turn, rows_of}

@@ -1,7 +1,7 @@
 use Rattle.std.proofs.Common.{◌≡◌, ◌<◌, ◌⊎◌, List, arith, length, refl, sym, ap, ◌∙◌, subst, slice_set}
 use Rattle.std.specs.Prelude.{vec_capacity, vec_len}
 use Rattle.std.proofs.lemmas.Option.{slice_get_read}
-use Rattle.office_base.specs.declared.asks.Choice.TheVariants.{Withdraw}
+use Rattle.office_base.specs.declared.choice.Choice.TheVariants.{Withdraw}
 use Rattle.office_moves.specs.History.{IsHistory}
 use Rattle.season_facts.specs.Season.{facts_of}
 use Rattle.office_moves.specs.State.{State, in_window, rows_of, with_row}

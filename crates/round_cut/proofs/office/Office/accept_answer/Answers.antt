@@ -1,5 +1,5 @@
 use Rattle.std.proofs.Common.{◌≡◌, ◌∙◌, sym, ap, arith, rules}
-use Rattle.office_base.specs.declared.asks.Choice.TheVariants.{Withdraw}
+use Rattle.office_base.specs.declared.choice.Choice.TheVariants.{Withdraw}
 use Rattle.office_moves.specs.State.{State, with_row}
 use Rattle.round_cut.proofs.Counts.{still_less, still_most}
 use Rattle.round_cut.proofs.Standing.{stand_answer, stand_moved, stand_told}

@@ -1,15 +1,5 @@
 // What the office is asked, and who asks.
-use crate::{CandId, Code, ProgId, StepKind};
-
-/// What a candidate answers to a seat: keep it, keep it unless a better programme comes,
-/// the same within the seat's institute, or leave.
-#[derive(Clone, Copy, Debug, PartialEq, Eq)]
-pub enum Choice {
-    Freeze,
-    Float,
-    Slide,
-    Withdraw,
-}
+use office_base::{CandId, Choice, Code, StepKind};
 
 /// Who asks: the clerk, a candidate, or somebody unknown to the office.
 #[derive(Clone, Copy, PartialEq, Eq)]
