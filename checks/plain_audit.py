@@ -16,7 +16,7 @@ import re
 import sys
 from typing import Collection, Generator, Iterable, Iterator, Optional, Union
 
-from plain_office import STAYS, STEPS, TRAITS, Answer, Office, Person, Protections, Round, Season, Seat, greatest
+from plain_office import SEAT_KINDS, STAYS, STEPS, TRAITS, Answer, Office, Person, Protections, Round, Season, Seat, greatest
 from plain_scripts import is_request
 from plain_special import read_lists, season_left
 
@@ -180,7 +180,7 @@ def rows_text(season: Season, name: list[set[str]], row: str, end: str, found: l
     line = yield (*name, {str(it) for it in range(len(ids) + 1 if season.programmes else 1)})
     left = int(line.split(" ")[-1])
     while left:
-        line = yield ({row}, {str(it) for it in ids[: len(ids) - left + 1]}, season.programmes, STEPS)
+        line = yield ({row}, {str(it) for it in ids[: len(ids) - left + 1]}, season.programmes, SEAT_KINDS)
         _, cand, code, step = line.split(" ")
         ids = ids[ids.index(int(cand)) + 1 :]
         found.append((int(cand), code, step))

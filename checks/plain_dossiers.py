@@ -10,7 +10,7 @@ from typing import TYPE_CHECKING, Callable, Iterable, Iterator, Mapping, Optiona
 
 from cases import SECONDS, called, first_difference
 from plain_audit import MOST_INPUT, applies, verdict
-from plain_office import STEPS, Answer, Office, Person, Raise, Season, Seat, StepList, certificate
+from plain_office import SEAT_KINDS, STEPS, Answer, Office, Person, Raise, Season, Seat, StepList, certificate
 from plain_special import Choices, InOrder, Item, drawn_lists, drawn_season, read_lists, season_left
 
 TOP = os.path.dirname(os.path.dirname(os.path.realpath(__file__)))
@@ -153,7 +153,7 @@ def seats_changed(draw: "Draw", dossier: Dossier) -> Optional[bytes]:
     one, other = one_of(draw, ids), one_of(draw, ids)
     kind = draw.below(5)
     if kind == 0:
-        seats[one] = (one_of(draw, dossier.season.programmes), one_of(draw, STEPS))
+        seats[one] = (one_of(draw, dossier.season.programmes), one_of(draw, SEAT_KINDS))
     elif kind == 1:
         seats.pop(one, None)
     elif kind == 2 and one in seats:
@@ -161,7 +161,7 @@ def seats_changed(draw: "Draw", dossier: Dossier) -> Optional[bytes]:
     elif kind == 3 and one in seats and other in seats:
         seats[one], seats[other] = seats[other], seats[one]
     elif one in seats:
-        seats[one] = (seats[one][0], one_of(draw, STEPS))
+        seats[one] = (seats[one][0], one_of(draw, SEAT_KINDS))
     return dossier.with_seats(at, seats)
 
 
@@ -175,7 +175,7 @@ def round_changed(draw: "Draw", dossier: Dossier) -> Optional[bytes]:
     if draw.below(2) and cand in seats:
         del seats[cand]
     elif dossier.season.choices.get(cand):
-        seats[cand] = (one_of(draw, dossier.season.choices[cand]), one_of(draw, STEPS))
+        seats[cand] = (one_of(draw, dossier.season.choices[cand]), one_of(draw, SEAT_KINDS))
     rows = [f"allot {cand} {code} {step}" for cand, (code, step) in sorted(seats.items())]
     dossier.texts[at] = [f"round {at + 1} seated {len(rows)}", *rows, *lines[lines.index("end round") :]]
     return dossier.given()
@@ -278,7 +278,7 @@ def final_changed(draw: "Draw", dossier: Dossier) -> Optional[bytes]:
         del rows[at]
     else:
         cand = rows[at].split(" ")[1]
-        rows[at] = f"admit {cand} {one_of(draw, dossier.season.programmes)} {one_of(draw, STEPS)}"
+        rows[at] = f"admit {cand} {one_of(draw, dossier.season.programmes)} {one_of(draw, SEAT_KINDS)}"
     dossier.last = [f"final {len(rows)}", *rows, "end final"]
     return dossier.given()
 

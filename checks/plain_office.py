@@ -9,6 +9,8 @@ import math
 from typing import Callable, Iterable, Iterator, Optional, Sequence, Union, cast
 
 STEPS = ("OPEN", "EWS", "OBC", "SC", "ST", "D")
+# what a seat may be had as: under a step, or kept beyond the seats of all steps, which is nobody's yet
+SEAT_KINDS = (*STEPS, "KEPT")
 TRAITS = "WDXSFL"
 CHOICES = ("freeze", "float", "slide", "withdraw")
 STAYS = ("freeze", "float", "slide")
