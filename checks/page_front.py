@@ -4,6 +4,7 @@ import os
 import shutil
 import subprocess
 import time
+from typing import Callable, Optional
 
 from cases import SECONDS
 from served import TOP, free_port, listeners
@@ -64,12 +65,12 @@ FIELDS = {
 }
 
 
-def found(name):
-    """Returns the path of a program of the distribution, or None."""
-    return shutil.which(name, path=SYSTEM["PATH"])
+def found(name: str) -> str:
+    """Returns the path of a program of the distribution, or an empty text."""
+    return shutil.which(name, path=SYSTEM["PATH"]) or ""
 
 
-def until(holds, what):
+def until(holds: Callable[[], object], what: str) -> None:
     end = time.monotonic() + SECONDS
     while not holds():
         if time.monotonic() > end:
@@ -80,34 +81,35 @@ def until(holds, what):
 class Office:
     """The program serving at one port, where it can be started again over what it kept."""
 
-    def __init__(self, program, room, bundle):
+    def __init__(self, program: str, room: str, bundle: bytes) -> None:
         self.words, self.room, self.port = [program, "serve", "100000", "4"], room, free_port()
         os.makedirs(room, mode=0o700, exist_ok=True)
         self.store = f"{room}/season.db"
         self.start("new", bundle)
 
-    def start(self, start="kept", bundle=b""):
+    def start(self, start: str = "kept", bundle: bytes = b"") -> None:
         with open(f"{self.room}/office.log", "ab") as log:
             self.child = subprocess.Popen([*self.words, start, str(self.port), self.store], stdin=subprocess.PIPE, stdout=log, stderr=log)
+        assert self.child.stdin
         self.child.stdin.write(bundle)
         self.child.stdin.close()
         until(lambda: listeners(self.port) or self.child.poll() is not None, "the port of the office")
         if self.child.poll() is not None:
             raise RuntimeError(f"the office exits with status {self.child.returncode}")
 
-    def stop(self):
+    def stop(self) -> None:
         if self.child.poll() is None:
             self.child.kill()
         self.child.wait()
 
-    def __enter__(self):
+    def __enter__(self) -> "Office":
         return self
 
-    def __exit__(self, *_):
+    def __exit__(self, *_: object) -> None:
         self.stop()
 
 
-def certificate(room):
+def certificate(room: str) -> str:
     """Makes a certificate for the name of the checks."""
     words = ["openssl", "req", "-x509", "-newkey", "ec", "-pkeyopt", "ec_paramgen_curve:P-256", "-nodes", "-days", "2", "-subj", f"/CN={HOST}"]
     words += ["-addext", f"subjectAltName=DNS:{HOST}", "-keyout", f"{room}/key.pem", "-out", f"{room}/cert.pem"]
@@ -118,10 +120,11 @@ def certificate(room):
 class Front:
     """nginx in front of the office at a port, with the pages of web/. `origin` is where the pages are."""
 
-    def __init__(self, room, office_port):
+    def __init__(self, room: str, office_port: int) -> None:
         self.room, self.port = room, free_port()
         self.deployed = os.access(f"{DEPLOY}/fill", os.X_OK)
-        self.certificate, self.host = None, None
+        self.certificate: Optional[str] = None
+        self.host: Optional[str] = None
         for name in ("temp", "season", "logs"):
             os.makedirs(f"{room}/{name}", exist_ok=True)
         subprocess.run([f"{TOP}/web/build", f"{room}/web"], stdout=subprocess.DEVNULL, check=True)
@@ -137,7 +140,7 @@ class Front:
         if self.child.poll() is not None:
             raise RuntimeError(f"nginx does not start: {self.logs()[-400:]}")
 
-    def configure(self, office_port):
+    def configure(self, office_port: int) -> None:
         self.origin = f"http://127.0.0.1:{self.port}"
         values = {"ROOM": self.room, "WEB": f"{self.room}/web", "PORT": str(self.port), "OFFICE": str(office_port)}
         text = CONFIGURATION
@@ -148,7 +151,7 @@ class Front:
         with open(f"{self.room}/headers.conf", "w", encoding="utf-8") as it:
             it.writelines(f'add_header {name} "{value}" always;\n' for name, value in FIELDS.items())
 
-    def configure_deployed(self, office_port):
+    def configure_deployed(self, office_port: int) -> None:
         self.host, self.certificate = HOST, certificate(self.room)
         self.origin = f"https://{HOST}:{self.port}"
         values = {
@@ -169,12 +172,12 @@ class Front:
         with open(f"{DEPLOY}/alone.conf", encoding="utf-8") as it, open(f"{self.room}/nginx.conf", "w", encoding="utf-8") as to:
             to.write(it.read().replace("@ROOM@", self.room))
 
-    def paper(self, name, text):
+    def paper(self, name: str, text: str) -> None:
         """Puts a published paper where the pages look for it."""
         with open(f"{self.season}/{name}", "w", encoding="utf-8") as it:
             it.write(text)
 
-    def logs(self):
+    def logs(self) -> str:
         """Returns all that nginx wrote."""
         text = ""
         for folder, _, names in os.walk(self.room):
@@ -184,9 +187,9 @@ class Front:
                         text += it.read()
         return text
 
-    def __enter__(self):
+    def __enter__(self) -> "Front":
         return self
 
-    def __exit__(self, *_):
+    def __exit__(self, *_: object) -> None:
         self.child.terminate()
         self.child.wait()
