@@ -5,6 +5,7 @@ form stops the build, so that nothing is shown as a raw sign. The machines that 
 import html
 import os
 import re
+from typing import Callable, Optional
 
 # each document with the folder in which it is served, and its language
 DOCUMENTS = {
@@ -24,12 +25,12 @@ class Unknown(Exception):
     """A form of Markdown that is not read here."""
 
 
-def slug(heading):
+def slug(heading: str) -> str:
     """Returns the name under which links find a heading, as code sites make it."""
     return re.sub(r"[^\w\- ]", "", re.sub(r"[`*]", "", heading).lower()).replace(" ", "-")
 
 
-def address(link, path):
+def address(link: str, path: str) -> Optional[str]:
     """Returns where a link of a document leads on the site, or None if the site does not have that."""
     name, _, part = link.partition("#")
     target = os.path.normpath(os.path.join(os.path.dirname(path), name)) if name else path
@@ -39,10 +40,10 @@ def address(link, path):
     return at + (f"#{part}" if part else "") or None
 
 
-def inline(text, path):
+def inline(text: str, path: str) -> str:
     """Returns the markup of a line's text."""
 
-    def one(found):
+    def one(found: re.Match[str]) -> str:
         code, label, link, strong, soft = found.groups()
         if code:
             return f"<code>{html.escape(code)}</code>"
@@ -51,23 +52,24 @@ def inline(text, path):
             return f'<a href="{html.escape(at)}">{inside}</a>' if at else inside
         return f"<strong>{inline(strong, path)}</strong>" if strong else f"<em>{inline(soft, path)}</em>"
 
-    parts, at = [], 0
+    parts: list[str] = []
+    at = 0
     for found in SPAN.finditer(text):
         parts += [html.escape(text[at : found.start()]), one(found)]
         at = found.end()
     return "".join([*parts, html.escape(text[at:])])
 
 
-def cells(line):
+def cells(line: str) -> list[str]:
     """Returns the cells of a table's row."""
     return [it.strip().replace(r"\|", "|") for it in re.split(r"(?<!\\)\|", line.strip().strip("|"))]
 
 
-def table(lines, path):
+def table(lines: list[str], path: str) -> str:
     """Returns a table. Below it each cell says its column, for pages on which a row is a card."""
     head, rows = cells(lines[0]), [cells(it) for it in lines[2:]]
 
-    def row(texts):
+    def row(texts: list[str]) -> str:
         return "".join(f'<td role="cell" data-column="{html.escape(re.sub("[`*]", "", name))}">{inline(it, path)}</td>' for name, it in zip(head, texts))
 
     top = "".join(f'<th scope="col" role="columnheader">{inline(it, path)}</th>' for it in head)
@@ -77,10 +79,12 @@ def table(lines, path):
     return f'<table role="table" class="cards{"" if named else " plain"}">{shown}<tbody role="rowgroup">{body}</tbody></table>'
 
 
-def items(lines, path):
+def items(lines: list[str], path: str) -> str:
     """Returns a list with the lists within it."""
-    depth, kind = len(ITEM.match(lines[0])[1]), "ul" if ITEM.match(lines[0])[2] == "-" else "ol"
-    parts = []
+    first = ITEM.match(lines[0])
+    assert first, f"no list begins with {lines[0]!r}"
+    depth, kind = len(first[1]), "ul" if first[2] == "-" else "ol"
+    parts: list[list[str]] = []
     for line in lines:
         found = ITEM.match(line)
         if found and len(found[1]) == depth:
@@ -90,7 +94,7 @@ def items(lines, path):
     return f"<{kind}>{''.join(f'<li>{item(it, path)}</li>' for it in parts)}</{kind}>"
 
 
-def item(lines, path):
+def item(lines: list[str], path: str) -> str:
     """Returns what is in an item: its sentences, and then perhaps a list or some paragraphs."""
     first = next((at for at, it in enumerate(lines) if at and (not it.strip() or ITEM.match(it))), len(lines))
     text = inline(" ".join(it.strip() for it in lines[:first]), path)
@@ -98,11 +102,11 @@ def item(lines, path):
     return text + blocks([it[least:] for it in lines[first:]], path)
 
 
-def is_table(lines, at):
-    return lines[at].startswith("|") and at + 1 < len(lines) and re.fullmatch(r"\|[-| :]+\|", lines[at + 1])
+def is_table(lines: list[str], at: int) -> bool:
+    return lines[at].startswith("|") and at + 1 < len(lines) and bool(re.fullmatch(r"\|[-| :]+\|", lines[at + 1]))
 
 
-def taken(lines, at, holds):
+def taken(lines: list[str], at: int, holds: Callable[[str], object]) -> list[str]:
     """Returns the lines from one on for which something holds."""
     end = at
     while end < len(lines) and holds(lines[end]):
@@ -110,9 +114,10 @@ def taken(lines, at, holds):
     return lines[at:end]
 
 
-def blocks(lines, path):
+def blocks(lines: list[str], path: str) -> str:
     """Returns the markup of lines: block after block."""
-    parts, at = [], 0
+    parts: list[str] = []
+    at = 0
     while at < len(lines):
         line = lines[at]
         if not line.strip():
@@ -140,7 +145,7 @@ def blocks(lines, path):
     return "\n".join(parts)
 
 
-def body(text, path):
+def body(text: str, path: str) -> str:
     """Returns the markup of a document, without its pictures and without the link to the other language at its head: the page has one."""
     lines = [it for it in text.splitlines() if not re.match(r"!\[|\[(?:हिन्दी में|In English)\]\(", it)]
     return blocks(lines, path)
