@@ -179,6 +179,9 @@ def faults() -> list[str]:
 
 
 def main(words: list[str]) -> int:
+    if words == ["--help"]:
+        print(__doc__)
+        return 0
     if len(words) > 1:
         sys.exit(__doc__)
     os.chdir(words[0] if words else os.path.dirname(os.path.dirname(os.path.realpath(__file__))))

@@ -478,7 +478,8 @@ def main() -> int:
     """Writes the verdict on the dossier of the standard input; returns the status that the program would have."""
     words = argparse.ArgumentParser(description="Prints the verdict on a dossier, which is read from standard input.")
     words.add_argument("--best", action="store_true", help="also prints whether each published round is the best one")
-    wrote, status = verdict(sys.stdin.buffer.read(), words.parse_args().best)
+    is_best_asked = words.parse_args().best
+    wrote, status = verdict(sys.stdin.buffer.read(), is_best_asked)
     sys.stdout.buffer.write(wrote)
     return status
 

@@ -254,6 +254,9 @@ def fault_by(trial: Trial) -> Optional[str]:
 
 
 def main(words: list[str]) -> int:
+    if words == ["--help"]:
+        print(__doc__)
+        return 0
     if not 1 <= len(words) <= 3:
         sys.exit(__doc__)
     share, seed = float(words[1]) if len(words) > 1 else 1, int(words[2]) if len(words) > 2 else 1
