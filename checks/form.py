@@ -5,11 +5,12 @@
 
 - No line of prose is longer than 160 characters. Headings, tables and code are no prose.
 - No sentence has more than 40 words, and no three sentences in a row of a paragraph have at most 6 words each: such a text is correct and choppy.
-- On the pages for people, and on those for who works on the office, a sentence has on average at least 13 and at most 18 words.
+- On the pages for people, on the promises, and on the pages for who works on the office, a sentence has on average at least 13 and at most 18 words.
+- One of these pages that shows the step D says in bold that it is de-reserved, because D is also the trait of persons with disabilities.
 - Some words are in no document outside of code: each has a plainer one.
-- A page for people that shows the step D says in bold that it is de-reserved, because D is also the trait of persons with disabilities.
 
-A span of code counts as one word, and so does a number. Cells of tables have to have short sentences too, and are left out of the averages."""
+A span of code counts as one word, and so does a number. Cells of tables have to have short sentences too, and are left out of the averages.
+So are lines that list names: those at the end of a promise, and items that have nothing but names."""
 import os
 import re
 import sys
@@ -28,17 +29,24 @@ COUNTED = ("README.md", "SECURITY.md", "CHANGELOG.md", "examples/README.md", *(f
            ("CANDIDATE", "CLERK", "COURT", "INSTITUTE", "HTTP", "LAW", "JOSAA", "NOT", "RULES", "CHECKING", "TUTORIAL")))
 # the pages for who works on the office, whose rhythm is held too
 HELD = ("CONTRIBUTING.md", "deploy/README.md", "deploy/choices/README.md", "deploy/replicated/README.md", "tools/README.md", "web/README.md",
-        *(f"docs/{it}.md" for it in ("DECISIONS", "DEFINITIONS", "FORMATS", "REFERENCES", "RUNNING", "TRUST", "promises/courts", "promises/institutes")))
+        *(f"docs/{it}.md" for it in ("DECISIONS", "DEFINITIONS", "FORMATS", "MAP", "PROMISES", "REFERENCES", "RUNNING", "TRUST")))
 # the letter D in the place of a step, and the words that say so
 STEP_D = re.compile(r"\bstep D\b|(?:^ *|\\n)D seats \d|`D - ", re.M)
 SAYS_STEP_D = re.compile(r"\*\*[^*]*\bde-reserved\b[^*]*\*\*")
 HARD_WORDS = re.compile(r"\b(told|whoever|the own|stands|beside|for want of)\b", re.I)
 ITEM = re.compile(r"( *)(?:[-*+]|\d{1,9}[.)]) +(?=\S)")
+# a sentence that lists names: one at the end of a promise, or an item of code alone
+NAMES = re.compile(r"(?:Said by|Refused edits):|(?:CODE\W*)+$")
 SENTENCE_ENDS = re.compile(r"[.!?][\"')\]*_]*\s+(?=[\"'(\[*_]*[A-Z0-9])")
 
 
 def of_plain_words(path: str) -> bool:
     return path in ("README.md", "SECURITY.md", "CONTRIBUTING.md", "cases/README.md") or path.startswith("docs/")
+
+
+def is_held(path: str) -> bool:
+    """Returns whether a document is held to the averages, and to saying what the step D is."""
+    return path in (*COUNTED, *HELD) or path.startswith("docs/promises/")
 
 
 # ---- lines by their kind
@@ -136,8 +144,8 @@ def sentences(path: str) -> Iterator[tuple[int, list[str], bool]]:
 
 
 def average(path: str) -> float:
-    """The words of a sentence of a document on average, without those of tables."""
-    found = [len(words) for _, words, is_cell in sentences(path) if not is_cell]
+    """The words of a sentence of a document on average, without those of tables and of lists of names."""
+    found = [len(words) for _, words, is_cell in sentences(path) if not is_cell and not NAMES.match(" ".join(words))]
     return sum(found) / max(len(found), 1)
 
 
@@ -173,8 +181,7 @@ def averages() -> str:
 def faults() -> list[str]:
     found = [it for path in documents.markdown() for it in long_lines(path)]
     found += [it for path in documents.markdown() if not path.endswith(".hi.md") for it in [*long_sentences(path), *choppy(path)]]
-    found += [it for path in (*COUNTED, *HELD) if os.path.exists(path) for it in out_of_rhythm(path)]
-    found += [it for path in (*COUNTED, "docs/FORMATS.md", "docs/promises/candidates.md") if os.path.exists(path) for it in unclear_letters(path)]
+    found += [it for path in documents.markdown() if is_held(path) for it in [*out_of_rhythm(path), *unclear_letters(path)]]
     return found + [it for path in documents.markdown() if of_plain_words(path) for it in hard_words(path)]
 
 
