@@ -333,7 +333,7 @@ export const CUTOFFS = {
     "A candidate who chose slide or freeze may be within the cutoff of a programme that they no longer sought.",
   ],
   save: "Save the table",
-  saveClosing: "Save it as a table of closing places",
+  saveClosing: "Save it with one column for each trait",
 };
 
 export const LIKE = {
