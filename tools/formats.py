@@ -89,7 +89,7 @@ ALLOWED = {
     "token": f"a token is {TOKEN.range()} letters A to Z, a to z and digits, and no two are the same",
     "code": f"a code is {CODE.range()} of the signs A to Z, a to z, 0 to 9 and -",
     "list": f"the merit list is {LISTS.range()}",
-    "step": f"a step is {listed(STEPS)}; the office makes step D itself",
+    "step": f"a step is {listed(STEPS)}; the office makes the de-reserved step itself",
     "seats": f"seats are {SEATS.range()}",
     "wide seats": f"seats are {SEATS.range()}, and nothing means 0",
     "protection": f"protected seats are {SEATS.range()}, and nothing means 0",
