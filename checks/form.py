@@ -7,6 +7,7 @@
 - No sentence has more than 40 words, and no three sentences in a row of a paragraph have at most 6 words each: such a text is correct and choppy.
 - On the pages for people, on the promises, and on the pages for who works on the office, a sentence has on average at least 13 and at most 18 words.
 - One of these pages that shows the step D says in bold that it is de-reserved, because D is also the trait of persons with disabilities.
+- Outside of code and headings the de-reserved step is written out, and is not called the step D.
 - Some words are in no document outside of code: each has a plainer one.
 
 A span of code counts as one word, and so does a number. Cells of tables have to have short sentences too, and are left out of the averages.
@@ -33,6 +34,8 @@ HELD = ("CONTRIBUTING.md", "deploy/README.md", "deploy/choices/README.md", "depl
 # the letter D in the place of a step, and the words that say so
 STEP_D = re.compile(r"\bstep D\b|(?:^ *|\\n)D seats \d|`D - ", re.M)
 SAYS_STEP_D = re.compile(r"\*\*[^*]*\bde-reserved\b[^*]*\*\*")
+# the letter in place of the words, where it is not explained
+BARE_STEP_D = re.compile(r"\b[Ss]teps? D\b(?! means)")
 HARD_WORDS = re.compile(r"\b(told|whoever|the own|stands|beside|for want of)\b", re.I)
 ITEM = re.compile(r"( *)(?:[-*+]|\d{1,9}[.)]) +(?=\S)")
 # a sentence that lists names: one at the end of a promise, or an item of code alone
@@ -103,6 +106,11 @@ def long_lines(path: str) -> list[str]:
 
 def hard_words(path: str) -> list[str]:
     return [f"{path}:{number}: '{it[0]}' has a plainer word" for number, kind, line in kinds(path) if kind != "code" for it in HARD_WORDS.finditer(without_code(line))]
+
+
+def bare_letters(path: str) -> list[str]:
+    return [f"{path}:{number}: it calls the de-reserved step by its letter"
+            for number, kind, line in kinds(path) if kind not in ("code", "heading") and BARE_STEP_D.search(without_code(line))]
 
 
 def unclear_letters(path: str) -> list[str]:
@@ -180,7 +188,7 @@ def averages() -> str:
 
 def faults() -> list[str]:
     found = [it for path in documents.markdown() for it in long_lines(path)]
-    found += [it for path in documents.markdown() if not path.endswith(".hi.md") for it in [*long_sentences(path), *choppy(path)]]
+    found += [it for path in documents.markdown() if not path.endswith(".hi.md") for it in [*long_sentences(path), *choppy(path), *bare_letters(path)]]
     found += [it for path in documents.markdown() if is_held(path) for it in [*out_of_rhythm(path), *unclear_letters(path)]]
     return found + [it for path in documents.markdown() if of_plain_words(path) for it in hard_words(path)]
 
