@@ -242,13 +242,14 @@ def papers(tally: Tally, room: str, port: int) -> None:
     with open(f"{room}/season/names.json", "w", encoding="utf-8") as it:
         json.dump({"programmes": {"N": "Civil <i>Engineering</i>"}, "institutes": {"I3": "NIT Goa"}}, it)
     with open(f"{room}/season/mock-round.txt", "w", encoding="utf-8") as it:
-        it.write("round 1 seated 1\nallot 101 N-HS OPEN\nend round\n")
+        it.write("round 1 seated 1\nallot 101 N-HS D\nend round\n")
     other = PortService(room)
     with other:
         who.port = other.port
         page = who.ask("GET", "/choices/hi/").text
         tally.holds("Civil &lt;i&gt;Engineering&lt;/i&gt;, NIT Goa (N)" in page, "names are shown as text")
         tally.holds('lang="hi"' in page and "आपकी पसंद 3" in page and "/season/mock-round.txt" in page, "the seat of the mock round, in Hindi")
+        tally.holds("आरक्षण से मुक्त की गई सीटें" in page and " D" not in page.partition('id="mock"')[2].partition("<ul>")[0], "and its kind in words, without the letter D")
 
 
 # ---- the clerk

@@ -224,7 +224,8 @@ class Pages:
             code, step = seat
             whole = code if code in store.programmes else code.removesuffix("-HS").removesuffix("-OS")
             choice = last.codes.index(whole) + 1 if last and whole in last.codes else None
-            told = self.w("mockSeat" if choice else "mockSeatOther", programme=self.programme(store, papers, whole), step=step, choice=choice)
+            kind = self.words["steps"].get(step, step)
+            told = self.w("mockSeat" if choice else "mockSeatOther", programme=self.programme(store, papers, whole), kind=kind, choice=choice)
         links = "".join(f'<li><a href="/season/{name}">{self.w(word)}</a></li>' for name, word in papers.mock_files())
         head = f'<section id="mock" aria-labelledby="mock-title"><h2 id="mock-title">{self.w("mockTitle")}</h2>'
         return f'{head}<p>{self.w("mockIntro")}</p><p>{told}</p><ul>{links}</ul></section>\n'
