@@ -1,4 +1,4 @@
-/** The seats of a list as boxes. It is a list that a screen reader reads in order: protected seats, seats by merit, empty seats. */
+/** The seats of a list as boxes. It is a list that a screen reader reads in order: protected seats, ordinary seats, empty seats. */
 import { details, el, verbatim } from "./dom.js";
 import { stepFault, TRAITS } from "./rule.js";
 import { kindOfSeat, OWN_WORDS, SEATS } from "./words.js";
@@ -15,7 +15,7 @@ function boxes(step, own, hasProtected, placeOf) {
       "li",
       { class: `${row.slot === "-" ? "" : "protected"} ${row.id === own?.cand ? "own" : ""}` },
       el("span", {}, SEATS.candidate, " ", el("strong", {}, row.id)),
-      row.slot !== "-" ? el("span", {}, SEATS.protectedFor(row.slot)) : hasProtected && el("span", {}, SEATS.byMerit),
+      row.slot !== "-" ? el("span", {}, SEATS.protectedFor(row.slot)) : hasProtected && el("span", {}, SEATS.ordinary),
       el("span", {}, placeOf(row.id, step.name) ?? SEATS.rank(rank.get(row))),
       row.id === own?.cand && el("span", { class: "you" }, SEATS.you),
     );

@@ -187,7 +187,7 @@ export const TRAITS = {
 };
 
 /** Those who hold all of some traits, before a postposition: `महिलाओं`, `दिव्यांग महिलाओं`. */
-const holders = (traits) => (traits.length === 1 ? TRAITS[traits] : traits === "WD" ? "दिव्यांग महिलाओं" : `${[...traits].map((it) => HOLDS[it]).join(" और ")} दोनों श्रेणियों वालों`);
+const holders = (traits) => (traits.length === 1 ? TRAITS[traits] : traits === "WD" ? "दिव्यांग महिलाओं" : `${[...traits].map((it) => HOLDS[it]).join(" और ")} दोनों विशेष श्रेणियों वालों`);
 
 /** What a candidate holds, as the person would say it. */
 export const HOLDS = {
@@ -272,7 +272,7 @@ export const CLOSES = (window, end, ms) =>
 export const LEFT = (window, end, ms) => (ms > 0 ? `${left(ms)} बाकी (भारतीय समय)।` : CLOSES(window, end, ms));
 
 export const ASKING = "कार्यालय से पूछा जा रहा है …";
-export const WAITING = "कार्यालय से अभी जवाब नहीं आया। पन्ना अपने आप फिर पूछ रहा है।";
+export const WAITING = "कार्यालय से अभी उत्तर नहीं आया। पन्ना अपने आप फिर पूछ रहा है।";
 export const ARRIVING = (bytes) => `${figure(Math.ceil(bytes / 100_000) / 10)} MB आ चुका है …`;
 export const NOTICE = "कार्यालय की सूचना";
 export const OWN_WORDS = "कार्यालय के अपने शब्द";
@@ -367,7 +367,7 @@ export const SEATS = {
   list: (step, seats) => `${kindOfSeat(step, seats)}: ${count(seats, "सीट", "सीटें")}`,
   // a published picture does not show who has a disability
   protectedFor: (trait) => (trait === "D" ? "विशेष श्रेणी की सीट" : `${TRAITS[trait]} के लिए आरक्षित सीट`),
-  byMerit: "साधारण सीट",
+  ordinary: "साधारण सीट",
   candidate: "उम्मीदवार",
   rank: (rank) => `इस लिस्ट में क्रम ${figure(rank)}`,
   place: (it, isBetter) => `रैंक ${it.rank === null ? `${it.behind} की सभी रैंकों के पीछे` : ranked(it)}${isBetter === null ? "" : isBetter ? ": आपसे बेहतर" : ": आपसे पीछे"}`,
@@ -852,9 +852,9 @@ const REFUSALS = {
 export const refusal = (body) => REFUSALS[body.refused]?.(body) ?? "कार्यालय ने यह नहीं माना।";
 
 const TROUBLES = {
-  lost: "कोई जवाब नहीं आया। शायद आपका इंटरनेट बंद है।",
-  broken: "जवाब आते-आते बीच में रुक गया। शायद आपका इंटरनेट धीमा या बंद है।",
-  away: "कार्यालय अभी जवाब नहीं दे रहा है।",
+  lost: "कोई उत्तर नहीं आया। शायद आपका इंटरनेट बंद है।",
+  broken: "उत्तर आते-आते बीच में रुक गया। शायद आपका इंटरनेट धीमा या बंद है।",
+  away: "कार्यालय अभी उत्तर नहीं दे रहा है।",
   busy: "अभी बहुत ज़्यादा लोग पूछ रहे हैं। थोड़ा रुकें।",
   keeper: "कार्यालय पक्का नहीं कर पाया कि यह दर्ज हुआ, इसलिए वह रसीद नहीं देता।",
   memory: "कार्यालय के कंप्यूटर की मेमोरी कम पड़ गई।",

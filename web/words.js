@@ -272,7 +272,7 @@ export const CLOSES = (window, end, ms) =>
 export const LEFT = (window, end, ms) => (ms > 0 ? `${left(ms)} left. Hours are in Indian time.` : CLOSES(window, end, ms));
 
 export const ASKING = "Asking the office …";
-export const WAITING = "The office does not answer yet. The page asks again by itself.";
+export const WAITING = "The office has not replied yet. The page asks again by itself.";
 export const ARRIVING = (bytes) => `${figure(Math.ceil(bytes / 100_000) / 10)} MB have arrived …`;
 export const NOTICE = "Notice of the office";
 export const OWN_WORDS = "The office's own words";
@@ -367,7 +367,7 @@ export const SEATS = {
   list: (step, seats) => `${kindOfSeat(step, seats)}: ${count(seats, "seat")}`,
   // a published picture does not show who has a disability
   protectedFor: (trait) => (trait === "D" ? "fills a protected seat" : `fills a seat protected for ${TRAITS[trait]}`),
-  byMerit: "on an ordinary seat",
+  ordinary: "on an ordinary seat",
   candidate: "Candidate",
   rank: (rank) => `no. ${figure(rank)} on this list`,
   place: (it, isBetter) => `place ${it.rank === null ? `behind all in ${it.behind}` : ranked(it)}${isBetter === null ? "" : isBetter ? ": better than yours" : ": behind yours"}`,
@@ -859,7 +859,7 @@ export const refusal = (body) => REFUSALS[body.refused]?.(body) ?? "The office r
 const TROUBLES = {
   lost: "No reply came. Your connection may be down.",
   broken: "The reply broke off while it was on its way. Your connection may be slow or down.",
-  away: "The office does not answer just now.",
+  away: "The office does not reply just now.",
   busy: "Too many people are asking just now. Wait a moment.",
   keeper: "The office could not confirm that it kept this, so it gives no receipt.",
   memory: "The office ran out of memory.",
