@@ -484,7 +484,7 @@ export const ENTRY = {
   seen: "What others can see of you",
   public: [
     "Where the board publishes rounds and lists, everybody can read your candidate number with your seat and its kind, and which protected seat you fill. The office's own lists name its trait by a letter, also that of disability. If the board publishes places too, your place is among them while you have a seat.",
-    "Your entry, your choice list, your answers and your receipts are for you and for the clerk. A court that checks the season gets them too.",
+    "Your entry in the register, your choice list, your answers and your receipts are for you and for the clerk. A court that checks the season gets them too.",
     "The office knows no names, marks or addresses.",
   ],
   fields: { category: "Category", traits: "Your traits", place: (list) => `Place in ${list}` },
@@ -803,7 +803,7 @@ export const CLERK = {
   cutting: "The office is closing the window. With many candidates this takes a while.",
   published: ({ round, seated }) => `Round ${round} is published. ${count(seated, "candidate has", "candidates have")} a seat.`,
   final: ({ admitted }) => `The final admissions are made. ${count(admitted, "candidate is", "candidates are")} admitted.`,
-  otherClerk: "Somebody closed the window before you. Nothing was done. Look at the state above.",
+  otherClerk: "Somebody closed the window before you. Nothing was done. Look at the state of the season above.",
   unknownCut: "The page does not know whether the window was closed. Ask again: the office closes it only once, and then repeats its receipt.",
   unknownRaise: "The page does not know whether the seats were added. Ask again: the office adds them only once, and then repeats its receipt.",
   again: "Ask again",
