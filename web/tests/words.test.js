@@ -41,57 +41,104 @@ function texts(it, at = "") {
   return it !== null && typeof it === "object" ? Object.keys(it).flatMap((key) => texts(it[key], at ? `${at}.${key}` : key)) : [];
 }
 
-// names of files, what a person types, and codes are not sentences
-const OUTSIDE = /^(?:EXAMPLE|MOCK|SHEET_FAULTS)|fileName|whoFile|sureType|Head$|CLERK\.raise|noScriptTexts/;
-const [english, hindi] = [en, hi].map((it) => new Map(texts(it).filter(([name]) => !OUTSIDE.test(name))));
+/** Returns a file of the repository. */
+const file = (path) => readFileSync(new URL(`../../${path}`, import.meta.url), "utf-8");
 
-test("both languages have the same names", () => assert.deepEqual([...english.keys()].sort(), [...hindi.keys()].sort()));
+/** Returns all words of a module, also the tables that it keeps for itself. */
+async function whole(name) {
+  const code = file(`web/${name}`);
+  const own = [...code.matchAll(/^(?:const|function) (\w+)/gm)].map((it) => it[1]);
+  return import(`data:text/javascript,${encodeURIComponent(`${code}\nexport { ${own.join(", ")} };`)}`);
+}
+
+// numbers and hours, names of files, what a person types, and codes are not sentences
+const OUTSIDE = /^(?:figure|count|nth|NTH|listed|WHEN|PARTS|clock|stepName|EXAMPLE|MOCK)\b|fileName|whoFile|sureType|Head$|CLERK\.raise|noScriptTexts/;
+const [english, hindi] = (await Promise.all(["words.js", "words.hi.js"].map(whole))).map((it) => new Map(texts(it).filter(([name]) => !OUTSIDE.test(name))));
+
+test("both languages have the same names", () => {
+  assert.deepEqual([...english.keys()].sort(), [...hindi.keys()].sort());
+  assert.deepEqual(Object.keys(en).sort(), Object.keys(hi).sort());
+});
 
 /** Returns the terms that the sentences of one language have, and those of the same names in the other one have not. */
 const lost = (own, others) => [...own].flatMap(([name, text]) => TERMS.filter((it) => it.en.test(text) && !it.hi.test(others.get(name) ?? "")).map((it) => `${name}: ${it.en}: ${others.get(name)}`));
 
-test("a term of the glossary is in the Hindi sentence if it is in the English one", () => assert.deepEqual(lost(english, hindi), []));
+/** Returns whether a sentence may say a term in Hindi alone. */
+const isFree = (name, term) => name in FREER && term.hi.test(FREER[name][0]);
 
 /** Returns the terms that the sentences in Hindi have, and those of the same names in English have not, of those that both languages have alike. */
 const foreign = (own, others) =>
-  [...others].flatMap(([name, text]) => TERMS.filter((it) => it.isBoth && it.hi.test(text) && !it.en.test(own.get(name) ?? "") && !(name in FREER)).map((it) => `${name}: ${it.hi}: ${own.get(name)}`));
+  [...others].flatMap(([name, text]) => TERMS.filter((it) => !it.oneWay && it.hi.test(text) && !it.en.test(own.get(name) ?? "") && !isFree(name, it)).map((it) => `${name}: ${it.hi}: ${own.get(name)}`));
 
-test("a term of both languages is in the English sentence if it is in the Hindi one", () => assert.deepEqual(foreign(english, hindi), []));
+test("a term of the glossary is in the sentence of both languages", () => {
+  assert.deepEqual(lost(english, hindi), []);
+  assert.deepEqual(foreign(english, hindi), []);
+});
 
 /** Returns each sentence in which a word is that has another one in its place. */
 const misnamed = (sentences, never) => sentences.flatMap((text) => never.filter(([word]) => word.test(text)).map(([word, instead]) => `${word} (${instead}): ${text}`));
+const NOT = { en: [...NEVER.everywhere, ...NEVER.en], hi: NEVER.hi };
 
 test("no word is in place of a term", () => {
   for (const [name, language] of [["words.js", "en"], ["words.hi.js", "hi"]]) {
-    const code = readFileSync(new URL(`../${name}`, import.meta.url), "utf-8").replace(/^\s*(?:\/\/.*|\/\*\*(?:.|\n)*?\*\/)\n/gm, "");
-    assert.deepEqual(misnamed(literals(code), NEVER[language]), [], name);
+    const code = file(`web/${name}`).replace(/^\s*(?:\/\/.*|\/\*\*(?:.|\n)*?\*\/)\n/gm, "");
+    assert.deepEqual(misnamed(literals(code), NOT[language]), [], name);
   }
 });
 
-test("nor in the pages that the web server shows in place of a number", () => {
-  const folder = new URL("../../deploy/pages/", import.meta.url);
-  for (const name of readdirSync(folder)) {
-    const lines = readFileSync(new URL(name, folder), "utf-8").split("\n");
-    for (const language of ["en", "hi"]) {
-      const own = lines.filter((it) => it.includes('lang="hi"') === (language === "hi")).map((it) => it.replace(/<[^>]*>/g, ""));
-      assert.deepEqual(misnamed(own, NEVER[language]), [], name);
-    }
+const DEVANAGARI = /[\u0900-\u097f]/;
+
+/** Returns the files of a folder and its folders that have a text in Hindi. */
+const withHindi = (folder) =>
+  readdirSync(new URL(`../../${folder}/`, import.meta.url), { withFileTypes: true }).flatMap((it) =>
+    it.isDirectory() ? withHindi(`${folder}/${it.name}`) : DEVANAGARI.test(file(`${folder}/${it.name}`)) ? [`${folder}/${it.name}`] : [],
+  );
+
+test("nor in what the web server and the programs of deploy/ show", () => {
+  const shown = withHindi("deploy");
+  assert.ok(["deploy/papers", "deploy/choices/choices.conf", "deploy/pages/404.html"].every((it) => shown.includes(it)), `${shown}`);
+  for (const path of shown) {
+    const lines = file(path).split("\n").filter((it) => DEVANAGARI.test(it) || /^<(?:p|h1|h2|title)\b/.test(it)).map((it) => it.replace(/<[^>]*>/g, " "));
+    for (const language of ["en", "hi"]) assert.deepEqual(misnamed(lines, NOT[language]), [], path);
   }
 });
 
-/** Returns a file of the repository. */
-const file = (path) => readFileSync(new URL(`../../${path}`, import.meta.url), "utf-8");
+/** Returns the paragraphs of a document and the rows of its tables, each under its number, without the pages to which it links. */
+function blocks(path) {
+  const parts = file(path).replace(/\]\([^)]*\)/g, "]").split(/\n\n+/).flatMap((it) => (it.startsWith("|") ? it.split("\n").filter((row) => !/^[|\s:-]+$/.test(row)) : [it]));
+  return new Map(parts.map((it, at) => [`${at + 1}`, it]));
+}
 
-test("nor in the guide", () => {
-  for (const [path, language] of [["docs/HELP.md", "en"], ["docs/HELP.hi.md", "hi"], ["docs/CANDIDATE.md", "en"], ["docs/CANDIDATE.hi.md", "hi"]]) assert.deepEqual(misnamed(file(path).split("\n"), NEVER[language]), [], path);
+for (const name of ["HELP", "CANDIDATE"]) {
+  test(`nor in the guide: ${name} says the same terms in both languages, block by block`, () => {
+    const [own, others] = [`docs/${name}.md`, `docs/${name}.hi.md`].map(blocks);
+    assert.equal(own.size, others.size);
+    assert.deepEqual(lost(own, others), []);
+    assert.deepEqual(foreign(own, others), []);
+    for (const [sentences, never] of [[own, NOT.en], [others, NOT.hi]]) assert.deepEqual(misnamed([...sentences.values()], never), []);
+  });
+}
+
+/** Returns the documents in English of a folder. */
+const inFolder = (folder) => readdirSync(new URL(`../../${folder}/`, import.meta.url)).filter((it) => it.endsWith(".md") && !it.endsWith(".hi.md")).map((it) => `${folder}/${it}`);
+
+/** Returns the lines of a document, without its code and the pages to which it links. */
+const proseOf = (path) => file(path).split("\n").filter((it) => !it.startsWith("    ")).map((it) => it.replace(/`[^`]*`/g, "").replace(/\]\([^)]*\)/g, "]"));
+
+test("nor in any document in English", () => {
+  // DEFINITIONS has the words of other works next to ours
+  const documents = ["README.md", "SECURITY.md", "CHANGELOG.md", "CONTRIBUTING.md", ...["docs", "docs/promises", "deploy", "deploy/choices", "deploy/replicated", "tools", "web", "examples"].flatMap(inFolder)].filter((it) => it !== "docs/DEFINITIONS.md");
+  assert.ok(documents.length > 35, `${documents}`);
+  assert.deepEqual(documents.flatMap((path) => misnamed(proseOf(path), NEVER.everywhere).map((it) => `${path}: ${it}`)), []);
 });
 
 test("nor where candidates make their lists on the web, and terms are the same there", () => {
   // what is in braces is a name of the program
-  const [english, hindi] = ["en", "hi"].map((it) => new Map(texts(JSON.parse(file(`deploy/choices/words.${it}.json`))).map(([name, text]) => [name, text.replace(/\{\w+\}/g, "…")])));
-  assert.deepEqual([...english.keys()], [...hindi.keys()]);
-  assert.deepEqual(lost(english, hindi), []);
-  for (const [sentences, never] of [[english, NEVER.en], [hindi, NEVER.hi]]) assert.deepEqual(misnamed([...sentences.values()], never), []);
+  const [own, others] = ["en", "hi"].map((it) => new Map(texts(JSON.parse(file(`deploy/choices/words.${it}.json`))).map(([name, text]) => [name, text.replace(/\{\w+\}/g, "…")])));
+  assert.deepEqual([...own.keys()], [...others.keys()]);
+  assert.deepEqual(lost(own, others), []);
+  assert.deepEqual(foreign(own, others), []);
+  for (const [sentences, never] of [[own, NOT.en], [others, NOT.hi]]) assert.deepEqual(misnamed([...sentences.values()], never), []);
 });
 
 /** Returns sentences with another word in place of a term in one of them. */
@@ -105,17 +152,17 @@ test("another word in place of a term is found, in each sentence of each languag
     for (const name of names) {
       assert.ok(lost(english, spoiled(hindi, name, term.hi)).length, `${name} without ${term.hi}`);
       tried.hi += 1;
-      if (!term.isBoth || name in FREER) continue;
+      if (term.oneWay || isFree(name, term)) continue;
       assert.ok(foreign(spoiled(english, name, term.en), hindi).length, `${name} without ${term.en}`);
       tried.en += 1;
     }
   }
-  assert.ok(tried.hi > 300 && tried.en > 200, `${tried.hi} and ${tried.en} words were tried`);
+  assert.ok(tried.hi > 600 && tried.en > 350, `${tried.hi} and ${tried.en} words were tried`);
 });
 
 test("a wrong word is found", () => {
-  assert.equal(misnamed(["The students wait."], NEVER.en).length, 1);
-  assert.equal(misnamed(["यह सत्र पूरा हुआ।"], NEVER.hi).length, 1);
+  assert.equal(misnamed(["The aspirants wait."], NOT.en).length, 1);
+  assert.equal(misnamed(["यह सत्र पूरा हुआ।"], NOT.hi).length, 1);
   assert.equal(lost(new Map([["it", "Your seat"]]), new Map([["it", "आपका स्थान"]])).length, 1);
   assert.deepEqual(literals('({ a }) => (a ? `Round ${figure("x")} of ${b}.` : "none")'), ["x", "Round … of ….", "none"]);
 });
