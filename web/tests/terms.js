@@ -39,7 +39,7 @@ export const TERMS = [
   { en: /(?<!\bin (?:the |your )?)(?<!\bsame )\bplaces?\b/i, hi: /रैंक/, oneWay: true },
   { en: /\bdisabilit(?:y|ies)\b/i, hi: /दिव्यांग/ },
   { en: /\brepl(?:y|ies|ied)\b/i, hi: /उत्तर/ },
-  { en: /\banswer(?:s|ed)?\b/i, hi: /जवाब|answers/, oneWay: true },
+  { en: /\banswer(?:s|ed)?\b/i, hi: /जवाब|विकल्प घट|answers/, oneWay: true },
 ];
 
 /** Sentences that say in English without a term what they say in Hindi with it, by their names: the term, and the reason. */

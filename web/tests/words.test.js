@@ -98,21 +98,19 @@ test("nor in what the web server and the programs of deploy/ show", () => {
   const shown = withHindi("deploy");
   assert.ok(["deploy/papers", "deploy/choices/choices.conf", "deploy/pages/404.html"].every((it) => shown.includes(it)), `${shown}`);
   for (const path of shown) {
-    const lines = file(path).split("\n").filter((it) => DEVANAGARI.test(it) || /^<(?:p|h1|h2|title)\b/.test(it)).map((it) => it.replace(/<[^>]*>/g, " "));
-    for (const language of ["en", "hi"]) assert.deepEqual(misnamed(lines, NOT[language]), [], path);
+    const said = file(path).split("\n").filter((it) => DEVANAGARI.test(it) || /^<(?:p|h1|h2|title)\b/.test(it)).map((it) => it.replace(/<[^>]*>/g, " "));
+    for (const language of ["en", "hi"]) assert.deepEqual(misnamed(said, NOT[language]), [], path);
   }
 });
 
-/** Returns the paragraphs of a document and the rows of its tables, each under its number, without the pages to which it links. */
-function blocks(path) {
-  const parts = file(path).replace(/\]\([^)]*\)/g, "]").split(/\n\n+/).flatMap((it) => (it.startsWith("|") ? it.split("\n").filter((row) => !/^[|\s:-]+$/.test(row)) : [it]));
-  return new Map(parts.map((it, at) => [`${at + 1}`, it]));
-}
+/** Returns the lines of a document, each under its number, without the pages to which it links. */
+const lines = (path) => new Map(file(path).split("\n").map((it, at) => [`line ${at + 1}`, it.replace(/\]\([^)]*\)/g, "]")]));
 
 for (const name of ["HELP", "CANDIDATE"]) {
-  test(`nor in the guide: ${name} says the same terms in both languages, block by block`, () => {
-    const [own, others] = [`docs/${name}.md`, `docs/${name}.hi.md`].map(blocks);
-    assert.equal(own.size, others.size);
+  test(`nor in the guide: ${name} says the same terms in both languages, line by line`, () => {
+    const [own, others] = [`docs/${name}.md`, `docs/${name}.hi.md`].map(lines);
+    const [form, otherForm] = [own, others].map((it) => [...it.values()].map((line) => (line === "" ? "" : (/^(?:#+ |\||\s*[-\d.]* )/.exec(line)?.[0] ?? "text"))));
+    assert.deepEqual(otherForm, form);
     assert.deepEqual(lost(own, others), []);
     assert.deepEqual(foreign(own, others), []);
     for (const [sentences, never] of [[own, NOT.en], [others, NOT.hi]]) assert.deepEqual(misnamed([...sentences.values()], never), []);
