@@ -272,7 +272,7 @@ export const CLOSES = (window, end, ms) =>
 export const LEFT = (window, end, ms) => (ms > 0 ? `${left(ms)} left. Hours are in Indian time.` : CLOSES(window, end, ms));
 
 export const ASKING = "Asking the office …";
-export const WAITING = "The office has not replied yet. The page asks again by itself.";
+export const WAITING = "The office does not reply yet. The page asks again by itself.";
 export const ARRIVING = (bytes) => `${figure(Math.ceil(bytes / 100_000) / 10)} MB have arrived …`;
 export const NOTICE = "Notice of the office";
 export const OWN_WORDS = "The office's own words";
