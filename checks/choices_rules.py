@@ -6,6 +6,7 @@ import json
 import os
 import re
 import resource
+import shutil
 import sqlite3
 import string
 import subprocess
@@ -15,8 +16,10 @@ from typing import Any, Mapping, NamedTuple, Optional, Union
 from urllib.parse import urlencode
 
 from cases import ROOMS
-from choices_load import Service, called
+from choices_load import CHOICES, Service, called
 from deployed import Tally
+from deployed_spoiled import Came, saved_again, tried_with
+from front import found
 from served import TOP, free_port
 
 sys.path.insert(0, f"{TOP}/deploy/choices")
@@ -351,6 +354,96 @@ def beginning(tally: Tally) -> None:
         tally.holds("damaged" in called("write", path, f"{room}/lists", status=3), "a list that is not that of its receipt is reported")
 
 
+# ---- a file of tokens that a spreadsheet program saved
+
+
+def tokens_csv(numbers: dict[int, str], head: str = "candidate,token,number,application_number,name") -> str:
+    """Returns a file of tokens with these application numbers."""
+    return "\n".join([head, "clerk,x", *(f"{it},{TOKENS[it]},{it},{number},Name {it}" for it, number in numbers.items()), ""])
+
+
+ZEROS = {101: "0240310123", 102: "0240310124", 103: "1240310125"}
+WHOLE = tokens_csv(ZEROS)
+AT = "column application_number (D): "
+REGISTER = "application number,name\n" + "".join(f"{it},x\n" for it in ZEROS.values())
+# what a spreadsheet program made of the file, the register next to it if there is one, and what `begin` says of it
+CHANGED: tuple[tuple[str, str, str, str], ...] = (
+    ("all zeros are lost", WHOLE.replace(",0", ","), REGISTER, f"row 3, {AT}`240310123`: the register next to the file has `0240310123`: a spreadsheet program drops zeros at the beginning. Put a good copy"),
+    ("one number has lost its zero", WHOLE.replace(",02403101", ",2403101", 1), "", f"row 3, {AT}`240310123`: other application numbers have 10 digits and zeros before them"),
+    ("few numbers have lost their zeros", tokens_csv({101: "240310123", 102: "1240310124", 103: "1240310125"}), "", f"row 3, {AT}`240310123`: most application numbers have 10 digits"),
+    ("a long number is a power of ten", tokens_csv({101: "2.60310E+12", 102: "2603100000102"}), "", f"row 3, {AT}`2.60310E+12`: a spreadsheet program shortened the number. Put a good copy"),
+    ("two numbers are one", tokens_csv({101: "2603100000000", 102: "2603100000000"}), "", f"row 4, {AT}`2603100000000`: candidate 101 has this application number too"),
+    ("a token is a power of ten", WHOLE.replace(TOKENS[102], "1.2E+31"), "", "row 4, column token (B): candidate 102 has another token in the bundle: a spreadsheet program may have changed it"),
+    ("a token is missing", WHOLE.replace(TOKENS[103], ""), "", "row 5, column token (B): candidate 103 has another token"),
+    ("a candidate is a power of ten", WHOLE.replace("\n101,", "\n1.01E+02,"), "", "row 3, column candidate (A): `1.01E+02`: a candidate number is 1 to 999,999,999"),
+    ("the columns have no names", WHOLE.partition("\n")[2], "", "there is no column `candidate`"),
+)
+
+
+def spreadsheets(tally: Tally) -> None:
+    """Looks at files of tokens that a spreadsheet program changed: they are refused, with the row and what to do, and without a token."""
+    with tempfile.TemporaryDirectory(prefix="choices-", dir=ROOMS) as room:
+        path, file = f"{room}/choices.db", f"{room}/tokens.csv"
+        for label, text, register, wanted in CHANGED:
+            for name, data in (("tokens.csv", text), ("register.csv", register)):
+                with open(f"{room}/{name}", "w", encoding="utf-8") as it:
+                    it.write(data)
+            said = called("begin", path, "--tokens", file, given=BUNDLE, status=3)
+            is_told = wanted in said and "Traceback" not in said and not any(it in said for it in TOKENS.values())
+            tally.holds(is_told and not os.path.exists(path), f"begin refuses a file of tokens in which {label}", said)
+    saved_well(tally)
+
+
+def saved_well(tally: Tally) -> None:
+    """Looks at files of tokens that a spreadsheet program saved without loss, and at numbers that are meant as they are."""
+    plain = {101: "7", 102: "11", 103: "12"}
+    saved: tuple[tuple[str, bytes, list[str], dict[int, str]], ...] = (
+        ("with a mark", WHOLE.encode("utf-8-sig"), [], ZEROS),
+        ("as UTF-16 with tabs", WHOLE.replace(",", "\t").encode("utf-16"), [], ZEROS),
+        ("with semicolons", WHOLE.replace(",", ";").encode(), [], ZEROS),
+        ("with .0 behind its numbers", tokens_csv({101: "2603100000101.0", 102: "2603100000102"}).replace("\n101,", "\n101.0,").encode(), [], {101: "2603100000101", 102: "2603100000102"}),
+        ("of another heading", tokens_csv(ZEROS, "Candidate,Token,Number,Application Number,Name").encode(), [], ZEROS),
+        ("whose numbers are meant", tokens_csv(plain).encode(), ["--yes"], plain),
+    )
+    for label, data, words, numbers in saved:
+        with tempfile.TemporaryDirectory(prefix="choices-", dir=ROOMS) as room:
+            with open(f"{room}/tokens.csv", "wb") as it:
+                it.write(data)
+            told = called("begin", f"{room}/choices.db", "--tokens", f"{room}/tokens.csv", *words, given=BUNDLE)
+            rows = store.Store(f"{room}/choices.db").base.execute("SELECT number, board FROM candidate WHERE board IS NOT NULL ORDER BY number")
+            tally.same(dict(rows.fetchall()), numbers, f"begin takes a file of tokens {label}")
+            tally.holds(f"{len(numbers)} candidates sign in with an application number, such as {numbers[101]}: compare" in told, f"begin says with what they sign in, {label}", told)
+
+
+def spoiled(tally: Tally) -> None:
+    """Looks at a file of tokens that is spoiled in 90 ways: `begin` takes it, or says in words why not and makes nothing."""
+
+    def begins(folder: str) -> Came:
+        words = [sys.executable, CHOICES, "begin", f"{folder}/made.db", "--tokens", f"{folder}/spoiled"]
+        ran = subprocess.run(words, input=BUNDLE.encode(), stdout=subprocess.PIPE, stderr=subprocess.STDOUT)
+        return ran.returncode, ran.stdout.decode(errors="replace"), [it for it in os.listdir(folder) if it != "spoiled"]
+
+    with tempfile.TemporaryDirectory(prefix="choices-", dir=ROOMS) as room:
+        faults = tried_with(room, WHOLE.encode(), begins)
+    tally.holds(not faults, "begin over a file of tokens spoiled in 90 ways", f"{len(faults)}: {faults[:3]}")
+
+
+def through_libreoffice(tally: Tally) -> None:
+    """Looks at what LibreOffice makes of application numbers that begin with a zero, in each form in which it saves a table."""
+    if not found("soffice"):
+        tally.skips("tokens.csv through LibreOffice", "soffice")
+        return
+    with tempfile.TemporaryDirectory(prefix="choices-") as room:
+        with open(f"{room}/register.csv", "w", encoding="utf-8") as it:
+            it.write(REGISTER)
+        with open(f"{room}/given.csv", "w", encoding="utf-8") as it:
+            it.write(WHOLE)
+        for how, saved in saved_again(room, "given"):
+            shutil.copy(saved, f"{room}/tokens.csv")
+            said = called("begin", f"{room}/choices.db", "--tokens", f"{room}/tokens.csv", given=BUNDLE, status=3)
+            tally.holds(f"{AT}`240310123`: the register next to the file has `0240310123`" in said, f"begin refuses what LibreOffice saved {how}", said)
+
+
 def most(tally: Tally, kept: store.Store) -> None:
     """Looks at how often one candidate may save and report, and whether a refusal among others leaves these."""
     came = kept.all_together([("save", (101, ("A", "B")[at % 2 :][:1])) for at in range(1_001)] + [("save", (102, ("A",)))])
@@ -406,4 +499,4 @@ def seasoned(folder: str) -> str:
     return subprocess.run([f"{TOP}/tools/season", folder], stdout=subprocess.PIPE, stderr=subprocess.DEVNULL, check=True).stdout.decode()
 
 
-ALL = (words_agree, beginning, rules, full_disk, chain)
+ALL = (words_agree, beginning, spreadsheets, spoiled, through_libreoffice, rules, full_disk, chain)

@@ -5,7 +5,7 @@ from typing import Any, NamedTuple, Optional
 from formats import ALL_SEATS, ALLOWED, CODE, LISTS, PROGRAMMES, SEATS, STEPS, TRAITS
 from season_columns import WIDE
 from season_words import ASKS_CODES, DISABLED, REWRITTEN, bare, code, is_code, is_female_pool, number, quota, state, step
-from spreadsheets import Cell, Findings, Table, counted
+from spreadsheets import Cell, Findings, Table, counted, width_of
 
 ASKS_MERGED = "these fields are empty, as a spreadsheet program saves cells that are merged: does the text above them count?"
 ASKS_APART = "are the seats in the columns for persons with disabilities apart from those of their category, as JoSAA counts them? If they are among them, give the matrix a column with the total of each row."
@@ -15,18 +15,6 @@ Cells = dict[str, Cell]
 SUPPORTS = ("of", "and", "the", "in", "for", "with", "at", "on")
 # a unit's code has three signs more
 OF_DIVIDED = CODE.most - 3
-
-
-def width_of(codes: list[str]) -> tuple[int, str]:
-    """Returns how many digits codes of digits may have had before their zeros were lost, and why; 0 if nothing speaks for lost zeros, as in 1, 2, 3 and so on."""
-    padded = [len(it) for it in codes if re.fullmatch("0[0-9]+", it)]
-    if padded:
-        return max(padded), f"other codes have {max(padded)} digits and zeros before them"
-    widths = [len(it) for it in codes]
-    usual = max(widths, key=widths.count, default=0)
-    if 2 * widths.count(usual) <= len(codes) or sorted(map(int, codes)) == [*range(1, len(codes) + 1)]:
-        return 0, ""
-    return usual, f"most codes have {usual} digits"
 
 
 class Programme:
@@ -405,7 +393,7 @@ class Matrix:
             for row, fields in self.sheet.rows:
                 cell = self.sheet.cell(row, fields, meaning)
                 cells.setdefault(cell.text, cell)
-            width, why = width_of([it for it in cells if re.fullmatch("[0-9]+", it)])
+            width, why = width_of([it for it in cells if re.fullmatch("[0-9]+", it)], "codes")
             for text, cell in cells.items():
                 if REWRITTEN.fullmatch(text):
                     self.findings.doubts("codes", ASKS_CODES, cell)

@@ -348,6 +348,17 @@ def tell_lost_letters(file: str, rows: list[Row], findings: Findings) -> None:
         findings.remarks.append(f"{file}: {counted(len(lost), 'field')} with `??`, first in row {lost[0][0]}: letters were lost when the file was saved, so save it anew as CSV UTF-8")
 
 
+def width_of(numbers: list[str], what: str) -> tuple[int, str]:
+    """Returns how many digits some numbers may have had before their zeros were lost, and why; 0 if nothing speaks for lost zeros, as in 1, 2, 3 and so on."""
+    padded = [len(it) for it in numbers if re.fullmatch("0[0-9]+", it)]
+    if padded:
+        return max(padded), f"other {what} have {max(padded)} digits and zeros before them"
+    widths = collections.Counter(map(len, numbers))
+    usual, times = max(widths.items(), key=lambda it: it[1], default=(0, 0))
+    is_counted = max(widths, default=0) <= len(str(len(numbers))) and sorted(map(int, numbers)) == [*range(1, len(numbers) + 1)]
+    return (0, "") if 2 * times <= len(numbers) or is_counted else (usual, f"most {what} have {usual} digits")
+
+
 # ---- writing
 
 

@@ -1,4 +1,4 @@
-"""Reads what the choices need of a season: the register, the tokens and the seat matrix of a bundle, and the board's numbers of a file of tokens."""
+"""Reads what the choices need of a season: the register, the tokens and the seat matrix of a bundle."""
 import csv
 import io
 import re
@@ -9,8 +9,6 @@ NUMBER = re.compile(r"[1-9][0-9]{0,8}")
 CODE = re.compile(r"[A-Za-z0-9-]{1,16}")
 TOKEN = re.compile(r"[A-Za-z0-9]{8,32}")
 PLACE = re.compile(r"([1-9][0-9]{0,6}R?)?")
-# what people write in a file of tokens for the two numbers
-APPLICATION, OFFICE_NUMBER = ("application_number", "application number"), ("candidate", "number")
 
 
 class Wrong(Exception):
@@ -104,19 +102,3 @@ def season_of(text: str) -> Season:
     states = {row[0]: row[1] for row in before.get("states", []) if len(row) > 1}
     lists = {row[0]: tuple(it for it in row[1:] if it) for row in found["choices"][1:]}
     return Season([candidate_of(row, states, lists) for row in found["register"][1:]], matrix_of(found["matrix"], homes))
-
-
-def board_numbers(text: str) -> dict[int, tuple[str, str]]:
-    """Returns the board's own number and the name of each candidate, by the office's number, as a file of tokens has them."""
-    header, *rows = [row for row in csv.reader(io.StringIO(text.removeprefix(MARK), newline="")) if any(row)] or [[]]
-    names = [it.strip().lower() for it in header]
-    key = next((names.index(it) for it in OFFICE_NUMBER if it in names), None)
-    own = next((names.index(it) for it in APPLICATION if it in names), None)
-    name = names.index("name") if "name" in names else None
-    if key is None:
-        raise Wrong("the file of tokens has no column `candidate`: save it as CSV UTF-8 with commas in the spreadsheet program")
-
-    def field(row: list[str], at: Optional[int]) -> str:
-        return row[at].strip() if at is not None and at < len(row) else ""
-
-    return {int(row[key]): (field(row, own), field(row, name)) for row in rows if NUMBER.fullmatch(field(row, key))}
