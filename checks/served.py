@@ -1,5 +1,6 @@
-"""The program under `serve`, over real sockets: scripts as messages over loopback against the plain office (checks/plain_office.py), messages at their limits, bytes cut
-anywhere, clients side by side, a server that is killed, clients that go away, and how it ends. checks/repository runs it where the program has the command."""
+"""The program under `serve`, over real sockets: scripts as messages over loopback against the plain office (checks/plain_office.py), messages at their limits, raw ones
+(checks/raw_messages.py), bytes cut anywhere, clients side by side, a server that is killed, clients that go away, and how it ends. checks/repository runs it where
+the program has the command."""
 import collections
 import contextlib
 import functools
@@ -21,6 +22,7 @@ import time
 from typing import Any, Callable, Concatenate, Iterable, Iterator, Optional, ParamSpec, Union
 
 import openapi
+import raw_messages
 from cases import READS_STORES, ROOMS, SECONDS, Case
 from plain_http import asked, message, replied, reply_bytes
 from plain_office import Office, Person, Season
@@ -427,6 +429,22 @@ def exchanges(room: str, program: str, bundle: bytes, cuts: Optional[int]) -> No
             wrote, _, status = server.ended()
             entries = sum(it in told for it in (LEFT, LEFT_LATER, *CUTS))
             want(status == 0 and wrote.endswith(f"entries {entries}\n"), label, f"it ended with status {status} and wrote {wrote!r}")
+
+
+@trial
+def raw_exchanges(room: str, program: str, bundle: bytes, cuts: Optional[int]) -> None:
+    """Each raw message on a connection of its own, at once or in pieces of so many bytes: its replies, and what follows it. Nothing of all this is accepted: at last the
+    cut that was hidden in many of them is the first one."""
+    label = f"raw messages, in pieces of {cuts or 'all'} bytes"
+    found = raw_messages.messages()
+    office = Office(Season(bundle.decode()))
+    with Server(program, room, label, len(found) + 1, bundle=bundle) as server:
+        for it in found:
+            given, told = it.exchange()
+            same(f"{label}: {it.label}", server.talk([given[at : at + (cuts or len(given))] for at in range(0, len(given), cuts or len(given) or 1)]), told)
+        same(f"{label}: the hidden cut by itself", server.talk([raw_messages.SMUGGLED]), CUTS[0])
+        office.reply("cut,clerk,0")
+        ends_well(server, office, label)
 
 
 @trial
@@ -878,6 +896,7 @@ def trials(program: str, bundle: bytes, worked: Iterable[Case], drawn: Iterable[
             yield functools.partial(scripted, program, script, cuts, "memory")
     for pieces in (None, 1, 2, 3, 7) if is_long else (None,):
         yield functools.partial(exchanges, program, bundle, pieces)
+        yield functools.partial(raw_exchanges, program, bundle, pieces)
     long = Script("two hundred and fifty requests", bundle.decode(), ["state,nobody", "seat,1,1"] * 125)
     yield functools.partial(scripted, program, long, None, "memory")
     text = scripts[-1].text
