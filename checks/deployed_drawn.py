@@ -1,14 +1,18 @@
-"""The part of checks/deploy that draws 12,000 requests from docs/openapi.json, right and wrong ones, and holds each reply against the document; and raw messages
-that the RFCs and the office read differently, with the status of docs/FORMATS.md for each."""
+"""The parts of checks/deploy that draw 12,000 requests from docs/openapi.json, right and wrong ones, and hold each reply against the document; and that send the raw
+messages of checks/raw_messages.py to the office and through nginx."""
+import contextlib
 import json
 import re
 import socket
 from typing import Any, Optional, Sequence, TypeVar
 
 import openapi
+import raw_messages
 from deployed import CLERK, CUT, SECOND, THIRD, bundle_of, directly, part, tally
-from front import Office, Reply, read_reply, request
+from deployed_front import STATE
+from front import HOST, Front, Office, Recorder, Reply, read_reply
 from plain_trials import Draw
+from served import rest_of
 
 MANY = 12_000
 # values of another kind than a member has, as their text
@@ -16,6 +20,9 @@ ODD = ('"1"', "1.0", "1e0", "-1", "null", "true", "[1]", '{"a":1}', '""', '"' + 
 # what is no number, and no code, in a path
 NO_NUMBERS = ("0x1", "-1", "01", "1.0", "99999999999", "%31", "é", "")
 SPOILED: dict[str, tuple[str, ...]] = {"prog": ("a" * 17, "A.B", "%41", "é", "")}
+# statuses of replies, of the office's own and of those that nginx gives
+STATUS = re.compile(rb"HTTP/1\.1 (\d{3}) ")
+FRONTS = {100, 200, 301, 400, 403, 404, 405, 413, 414, 421, 501, 505}
 TOKENS = (CLERK, SECOND, THIRD, "tok00001", "tok00009", "wrongwrong", "", "x" * 40, "tok0000é")
 
 Item = TypeVar("Item")
@@ -149,47 +156,54 @@ def requests_drawn(room: str, program: str) -> None:
 
 # ---- raw messages
 
-RAW = [
-    (200, b"GET /v1/state HTTP/1.1\r\n\r\n", "no Host"),
-    (200, b"GET /v1/state HTTP/1.1\r\nHost: a\r\nHost: b\r\n\r\n", "two Hosts"),
-    (200, b"\r\n\r\nGET /v1/state HTTP/1.0\r\n\r\n", "empty lines before a head"),
-    (200, b"GET /v1/state HTTP/1.1\nHost: x\n\n", "LF alone"),
-    (404, b"GET http://x/v1/state HTTP/1.1\r\nHost: x\r\n\r\n", "an absolute target"),
-    (404, b"GET /v1/%73tate HTTP/1.1\r\nHost: x\r\n\r\n", "an escape that needs none"),
-    (404, b"GET /v1/state/ HTTP/1.1\r\nHost: x\r\n\r\n", "a slash at the end"),
-    (405, b"HEAD /v1/state HTTP/1.1\r\nHost: x\r\n\r\n", "HEAD"),
-    (405, b"OPTIONS /v1/state HTTP/1.1\r\nHost: x\r\n\r\n", "OPTIONS"),
-    (400, b"GET /v1/state HTTP/1.2\r\nHost: x\r\n\r\n", "HTTP/1.2"),
-    (400, b"GET /v1/state HTTP/2.0\r\nHost: x\r\n\r\n", "HTTP/2.0"),
-    (400, b"GET /v1/state\r\n\r\n", "HTTP/0.9"),
-    (400, b"GET  /v1/state HTTP/1.1\r\nHost: x\r\n\r\n", "two blanks"),
-    (400, b"GET /v1/state HTTP/1.1\r\nHost : x\r\n\r\n", "a blank before a colon"),
-    (400, b"GET /v1/state HTTP/1.1\r\n Host: x\r\n\r\n", "a folded line"),
-    (400, b"\x16\x03\x01\x02\x00\x01\x00\x01\xfc\x03\x03\r\n\r\n", "TLS"),
-    (501, b"POST /v1/cut HTTP/1.1\r\nTransfer-Encoding: chunked\r\n\r\n0\r\n\r\n", "chunks"),
-    (501, b"POST /v1/cut HTTP/1.1\r\nContent-Length: 2\r\nTransfer-Encoding: chunked\r\n\r\n{}", "a length and chunks"),
-    (400, b"POST /v1/cut HTTP/1.1\r\nContent-Length: 2\r\nContent-Length: 3\r\n\r\n{}", "two lengths"),
-    (400, b"POST /v1/cut HTTP/1.1\r\nContent-Length: +2\r\n\r\n{}", "a length with a sign"),
-    (400, b"POST /v1/cut HTTP/1.1\r\nContent-Length: 0x2\r\n\r\n{}", "a length in hexadecimal digits"),
-    (411, b"POST /v1/cut HTTP/1.1\r\nHost: x\r\n\r\n", "no length"),
-    (413, b"POST /v1/cut HTTP/1.1\r\nContent-Length: 4097\r\n\r\n", "a long body"),
-    (431, b"GET /" + b"x" * 9000 + b" HTTP/1.1\r\n\r\n", "a long target"),
-    (400, b"GET /v1/state HTTP/1.1\r\n" + b"A: b\r\n" * 65 + b"\r\n", "65 fields"),
-    (403, b'POST /v1/cut HTTP/1.1\r\nContent-Type: text/plain\r\nContent-Length: 12\r\n\r\n{"window":1}', "another type of body"),
-    (403, b'POST /v1/cut HTTP/1.1\r\nContent-Length: 23\r\n\r\n{"window":x,"window":1}'.replace(b"x", b"7"), "a key twice"),
-    (400, b'POST /v1/cut HTTP/1.1\r\nContent-Length: 14\r\n\r\n{"window":1.0}', "1.0"),
-    (400, b'POST /v1/cut HTTP/1.1\r\nContent-Length: 14\r\n\r\n{"window":1e0}', "1e0"),
-]
-
 
 def raw(office: Office) -> None:
-    for wanted, given, label in RAW:
-        with socket.create_connection(("127.0.0.1", office.port), timeout=10) as link:
-            link.sendall(given)
-            tally.same(read_reply(link, empty=given.startswith(b"HEAD"))[0].status, wanted, f"a raw message: {label}")
-    # of a key twice the last counts: the clerk's cut of window 1 with another one in front is the cut of window 1
-    body = b'{"window":9,"window":0}'
-    with socket.create_connection(("127.0.0.1", office.port), timeout=10) as link:
-        link.sendall(request("POST", "/v1/cut", CLERK, body))
-        came = read_reply(link)[0]
-    tally.holds(came.status == 200 and b'"round":1' in came.body, "of a key twice the last counts", f"{came}")
+    """The raw messages have the same statuses after cuts."""
+    before = directly(office, "GET", "/v1/state", None, None)
+    for it in raw_messages.messages():
+        with socket.create_connection(("127.0.0.1", office.port), timeout=30) as link:
+            link.sendall(it.exchange()[0])
+            link.shutdown(socket.SHUT_WR)
+            came = rest_of(link)
+        tally.same([int(status) for status in STATUS.findall(came)], it.all_statuses(), f"a raw message: {it.label}")
+    tally.same(directly(office, "GET", "/v1/state", None, None), before, "no raw message is accepted")
+    # of a key twice the last counts: this is the cut of window 0 again
+    again = directly(office, "POST", "/v1/cut", CLERK, b'{"window":9,"window":0}')
+    tally.holds(again.status == 200 and b'"round":1' in again.body, "of a key twice the last counts", f"{again}")
+
+
+@part("raw messages through nginx", ["nginx", "openssl"])
+def raw_through(room: str, program: str) -> None:
+    """Whatever nginx makes of the raw messages, what reaches the office is one whole request with the fields that it gets, and never the cut that is hidden in many."""
+    with Recorder(STATE) as office, Front(room, f"127.0.0.1:{office.port}") as nginx:
+        host, end = f"Host: {HOST}:{nginx.port}".encode(), b"GET /v1/state HTTP/1.1\r\nHost: x\r\nConnection: close\r\n\r\n"
+        came = b""
+        for at, it in enumerate(raw_messages.messages()):
+            with nginx.connected(f"127.0.2.{at % 250 + 1}") as link:
+                link.sendall((it.exchange()[0] + end).replace(b"Host: x\r\n", host + b"\r\n").replace(b"Host: x\n", host + b"\n"))
+                came += until_silent(link) + b"\n"
+        statuses = {int(it) for it in STATUS.findall(came)}
+        tally.holds(statuses <= FRONTS and {200, 400, 403, 405, 413} <= statuses, "nginx replies to raw messages as it does to others", f"{statuses}")
+        odd = [it for it in office.seen if not is_plain(it)]
+        tally.holds(len(office.seen) > 100 and not odd, "what reaches the office of raw messages is plain, and no cut", f"{len(odd)} of {len(office.seen)}: {odd[:3]}")
+
+
+def until_silent(link: socket.socket) -> bytes:
+    """Returns all that comes over a connection until it ends, or says nothing for a second: nginx may wait for the rest of a body."""
+    link.settimeout(1)
+    found = b""
+    with contextlib.suppress(OSError):
+        while piece := link.recv(1 << 16):
+            found += piece
+    return found
+
+
+def is_plain(given: bytes) -> bool:
+    """Whether a request that reached the office is whole, has the fields that nginx gives the office, and is no cut."""
+    head, _, body = given.partition(b"\r\n\r\n")
+    first, *lines = head.split(b"\r\n")
+    fields = [it.partition(b": ") for it in lines]
+    names = [name for name, _, _ in fields]
+    length = next((int(value) for name, _, value in fields if name == b"Content-Length"), 0)
+    is_known = set(names) <= {b"Host", b"Connection", b"X-Office-Token", b"Content-Length"} and len(set(names)) == len(names)
+    return is_known and length == len(body) and b"/v1/cut" not in first.partition(b"?")[0] and re.fullmatch(rb"[A-Z]\S* \S+ HTTP/1\.1", first) is not None
