@@ -757,7 +757,7 @@ def nginx_takes(room: str, program: str) -> None:
     tally.holds(ran.returncode == 0, "nginx -t", ran.stderr)
     lines = [it for it in ran.stderr.splitlines() if "[warn]" in it and "http2" not in it and '"user" directive' not in it]
     tally.holds(not lines, "nginx -t warns of nothing", f"{lines}")
-    tally.holds(nginx.child is None, "nothing was started")
+    tally.holds(nginx.begun is None, "nothing was started")
 
 
 @part("systemd takes the units", ["systemd-analyze"], rooms=None)
