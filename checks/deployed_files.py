@@ -21,7 +21,7 @@ from unittest import mock
 
 from cases import READS_STORES
 from deployed import CLERK, CUT, body, bundle_of, directly, part, tally, tokens_of
-from front import DEPLOY, HOST, SYSTEM, Front, Office, called, certificate, expired, found, read_reply, request, text_of, until
+from front import CALLERS_MASK, DEPLOY, HOST, SYSTEM, Front, Office, called, certificate, expired, found, read_reply, request, text_of, until
 from plain_office import Office as PlainOffice
 from plain_office import Season
 from served import TOP, free_port, kept_rows, listeners
@@ -31,7 +31,7 @@ from served import TOP, free_port, kept_rows, listeners
 
 
 def script(name: str, words: Sequence[str], program: str, given: bytes = b"", **how: str) -> tuple[int, str]:
-    ran = subprocess.run([f"{DEPLOY}/{name}", *words], input=given, capture_output=True, timeout=300, env={**SYSTEM, "OFFICE": program, **how})
+    ran = subprocess.run([f"{DEPLOY}/{name}", *words], input=given, capture_output=True, timeout=300, umask=CALLERS_MASK, env={**SYSTEM, "OFFICE": program, **how})
     return ran.returncode, (ran.stdout + ran.stderr).decode(errors="replace")
 
 
@@ -425,7 +425,7 @@ def followed(room: str, program: str, told: tuple[str, str]) -> None:
         with open(f"{room}/five.txt", "wb") as it:
             it.write(bundle_of())
         words = [f"{DEPLOY}/papers", "--follow", "0.2", "--office", f"127.0.0.1:{office.port}", "--season", f"{room}/five.txt", folder]
-        child = subprocess.Popen(words, stdout=subprocess.DEVNULL, stderr=subprocess.DEVNULL)
+        child = subprocess.Popen(words, stdout=subprocess.DEVNULL, stderr=subprocess.DEVNULL, umask=CALLERS_MASK)
         try:
             until(lambda: os.path.exists(f"{folder}/programmes.json"), "the papers before the first cut")
             there = sorted(it for it in os.listdir(folder) if not it.endswith(".gz"))

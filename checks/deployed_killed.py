@@ -9,7 +9,7 @@ from typing import Callable, Iterable, Iterator, Optional
 
 from cases import READS_STORES
 from deployed import CLERK, CUT, body, bundle_of, directly, part, tally
-from front import DEPLOY, SYSTEM, Office, called
+from front import CALLERS_MASK, DEPLOY, SYSTEM, Office, called
 
 # runs keep-copy with few copies to keep, and kills it before the call of this number that changes a file or starts a program
 DRIVER = r"""
@@ -110,7 +110,7 @@ def copies_made(program: str, room: str) -> str:
 
 def driven(program: str, at: int, mode: str, folder: str, second: str) -> int:
     words = [sys.executable, "-c", DRIVER, str(at), mode, f"{DEPLOY}/keep-copy", "--check", folder, second]
-    return subprocess.run(words, capture_output=True, env={**SYSTEM, "OFFICE": program}).returncode
+    return subprocess.run(words, capture_output=True, umask=CALLERS_MASK, env={**SYSTEM, "OFFICE": program}).returncode
 
 
 @part("keep-copy --check killed at each call")
@@ -161,7 +161,7 @@ def gone_back(program: str, room: str, at: int, mode: str, copy: str) -> Back:
     with open(f"{room}/count", "w", encoding="ascii") as it:
         it.write("0")
     env = {**SYSTEM, "PATH": f"{room}/bin:{SYSTEM['PATH']}", "ROOM": room, "AT": str(at), "MODE": mode, "OFFICE": f"{room}/bin/office", "REAL_OFFICE": program}
-    ran = subprocess.run([f"{DEPLOY}/go-back", copy, f"{room}/at/season.db"], capture_output=True, env=env, start_new_session=True, text=True)
+    ran = subprocess.run([f"{DEPLOY}/go-back", copy, f"{room}/at/season.db"], capture_output=True, env=env, umask=CALLERS_MASK, start_new_session=True, text=True)
     with open(f"{room}/count", encoding="ascii") as it:
         return ran, int(it.read())
 

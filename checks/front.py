@@ -17,6 +17,8 @@ HOST = "office.example"
 # the clerk of the checks, and anybody else; each address has limits of its own
 CLERK_AT, OTHER_AT = "127.0.0.9", "127.0.0.5"
 SYSTEM = {**os.environ, "PATH": f"{os.environ.get('PATH', '')}:/usr/sbin:/sbin"}
+# nginx's user reads what the checks make. The scripts of deploy/ run under the umask of the caller, which may be a strict one.
+CALLERS_MASK = os.umask(0o022)
 
 
 class Reply(NamedTuple):
@@ -273,7 +275,8 @@ def text_of(path: str) -> str:
 
 def called(words: Sequence[str], given: bytes = b"", **how: str) -> bytes:
     """What a program writes where it ends with 0."""
-    ran = subprocess.run(words, input=given, stdout=subprocess.PIPE, stderr=subprocess.PIPE, timeout=SECONDS, env={**SYSTEM, **how})
+    mask = CALLERS_MASK if "/deploy/" in words[0] else -1
+    ran = subprocess.run(words, input=given, stdout=subprocess.PIPE, stderr=subprocess.PIPE, timeout=SECONDS, umask=mask, env={**SYSTEM, **how})
     if ran.returncode:
         wrote = (ran.stderr + ran.stdout).decode(errors="replace")[-300:]
         raise Wrong(f"{os.path.basename(words[0])} {' '.join(words[1:2])}: status {ran.returncode}: {wrote}")
