@@ -1109,14 +1109,14 @@ def booted(room: str, program: str) -> None:
 
 @part("try", ["nginx", "openssl"], rooms=None)
 def looked_at(room: str, program: str) -> None:
-    """The look on one machine, until Ctrl-C."""
+    """The look on one machine under a strict umask, until Ctrl-C."""
     top = checkout(room, program)
     rooms = f"{room}/rooms"
     os.makedirs(rooms)
     port = next(it for it in iter(free_port, None) if not any(listeners(it + more) for more in (1, 2)))
     with open(f"{room}/try.txt", "wb") as log:
         env = {**SYSTEM, "OFFICE": program, "TMPDIR": rooms}
-        child = subprocess.Popen([f"{top}/deploy/try", str(port)], stdin=subprocess.DEVNULL, stdout=log, stderr=log, env=env)
+        child = subprocess.Popen([f"{top}/deploy/try", str(port)], stdin=subprocess.DEVNULL, stdout=log, stderr=log, umask=0o077, env=env)
     try:
         until(lambda: "Ctrl-C." in text_of(f"{room}/try.txt") or child.poll() is not None, "what try writes", 30)
         told = text_of(f"{room}/try.txt")
