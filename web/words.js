@@ -159,7 +159,7 @@ export const NUMBERS = {
 export const VISIT = {
   signedIn: (cand) => `Signed in as candidate ${cand}.`,
   left: { idle: "The page signed you out, because nobody touched it for 15 minutes.", asked: "You are signed out. The page has forgotten your token." },
-  lost: "You were signed in, but your browser did not pass that on to this page. Sign in again with your token. What you have sent to the office is not lost.",
+  lost: "You were signed in, but not on this page any more: you have signed out, or your browser did not pass it on. Sign in again with your token. What you have sent to the office is not lost.",
 };
 
 /** Whom to ask, where the board has published it. */
