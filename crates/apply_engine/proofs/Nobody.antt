@@ -4,14 +4,11 @@ use Rattle.std.specs.Prelude.{replicate, if◌then◌else◌}
 use Rattle.office_base.specs.Person.{at_person}
 use Rattle.office_base.specs.declared.person.Person.{Person}
 use Rattle.office_base.specs.declared.person.ProgId.{ProgId}
-use Rattle.office_base.specs.declared.seat.Seat.{Seat}
 use Rattle.office_base.specs.declared.seat.SeatKind.{SeatKind}
 use Rattle.office_base.specs.declared.seat.SeatKind.TheVariants.{Kept, Under}
-use Rattle.allocations.specs.Fair.{IsBest, IsFair}
-use Rattle.allocations.specs.Market.{Seeker}
-use Rattle.allocations.specs.Rule.{Rule}
 use Rattle.kept_seats.specs.Kept.{Guarantees, StepRule, with_kept}
 use Rattle.rounds.specs.Round.{IsRound}
+use Rattle.rounds.proofs.Nobody.{AdmitAlike, best_as}
 use Rattle.rounds.specs.Rule.{guarantees, is_programme, nobody, rule_of, steps_of}
 use Rattle.rounds.specs.declared.round.Round.{Round}
 use Rattle.seat_matrix.specs.Matrix.{SeatTable}
@@ -36,26 +33,8 @@ module _ (rule : StepRule) (guaranteed other : Guarantees) (same : (p : ℕ) (x 
   one_way p people x (Under step) admits = admits
   one_way p people x Kept keeps = record { guaranteed_there = sym (same p x) ∙ keeps.guaranteed_there; applies = keeps.applies; not_chosen = keeps.not_chosen }
 
-both_ways : (rule : StepRule) (guaranteed other : Guarantees) → ((p : ℕ) (x : Person) → guaranteed p x ≡ other p x) → (p : ℕ) (people : List Person) (x : Person) (kind : SeatKind)
-    → with_kept guaranteed rule p people x kind ↔ with_kept other rule p people x kind
+both_ways : (rule : StepRule) (guaranteed other : Guarantees) → ((p : ℕ) (x : Person) → guaranteed p x ≡ other p x) → AdmitAlike (with_kept guaranteed rule) (with_kept other rule)
 both_ways rule guaranteed other same p people x kind = (one_way rule guaranteed other same p people x kind, one_way rule other guaranteed (λ q y. sym (same q y)) p people x kind)
-
-fair_as : (rule other : Rule) (count : ℕ) (seekers : List Seeker) (seats : List (Option Seat))
-    → ((p : ℕ) (people : List Person) (x : Person) (kind : SeatKind) → rule p people x kind ↔ other p people x kind) → IsFair rule count seekers seats → IsFair other count seekers seats
-fair_as rule other count seekers seats same fair = record {
-  allocation = fair.allocation;
-  agrees = λ p i s kind below there.
-      let agrees = fair.agrees p i s kind below there in
-      let here = same p _ s.person kind in
-      (λ admits. agrees.0 (here.1 admits), λ has. here.0 (agrees.1 has));
-}
-
-best_as : (rule other : Rule) (count : ℕ) (seekers : List Seeker) (seats : List (Option Seat))
-    → ((p : ℕ) (people : List Person) (x : Person) (kind : SeatKind) → rule p people x kind ↔ other p people x kind) → IsBest rule count seekers seats → IsBest other count seekers seats
-best_as rule other count seekers seats same best = record {
-  fair = fair_as rule other count seekers seats same best.fair;
-  best = λ others fair. best.best others (fair_as other rule count seekers others (λ p people x kind. let here = same p people x kind in (here.1, here.0)) fair);
-}
 
 -- So a round in which no guarantee is given is one in which nobody is guaranteed a seat.
 pub plain_is : (version n count : ℕ) (table : SeatTable) (people : List Person) (lists : List (List ProgId)) (seeks : List Seek) (round : Round)
