@@ -126,8 +126,35 @@ fn round_in<L: Ledger>(
     )
 }
 
-/// Returns the same round as `round`, on seeks that it consumes, and counts no steps. The only error is that memory
+/// Returns the same round as `round_with`, on seeks that it consumes, and counts no steps. The only error is that memory
 /// runs out; it leaves nothing.
+pub fn plain_round_with(
+    alloc: Global,
+    season: &Season,
+    matrix: &Matrix,
+    number: u16,
+    seeks: Seeks,
+    guaranteed: &[Option<ProgId>],
+) -> Result<Round, OutOfMemory>
+    requires programmes { matrix.now.programmes ≡ season.now.matrix.programmes }
+    requires sought { AreSeeks (lists_in season.now.choices) seeks }
+    requires sure { length guaranteed.now ≡ length season.now.register.people }
+    ensures round { IfOk result (λ round. IsRound season.now.version
+        (guarantees season.now.register.people guaranteed.now) matrix.now
+        season.now.register.people (lists_in season.now.choices) number seeks round) }
+{
+    round_in::<Brand>(
+        alloc,
+        season,
+        matrix,
+        number,
+        seeks,
+        guaranteed,
+        Blank::new(1),
+    )
+}
+
+/// Returns the same round as `plain_round_with` where nobody is guaranteed a seat.
 pub fn plain_round(
     alloc: Global,
     season: &Season,
@@ -141,13 +168,5 @@ pub fn plain_round(
         season.now.register.people (lists_in season.now.choices) number seeks round) }
 {
     let guaranteed = nobody(alloc, season.register.people().len())?;
-    round_in::<Brand>(
-        alloc,
-        season,
-        matrix,
-        number,
-        seeks,
-        &guaranteed,
-        Blank::new(1),
-    )
+    plain_round_with(alloc, season, matrix, number, seeks, &guaranteed)
 }

@@ -12,5 +12,5 @@ mod one_round;
 mod programmes;
 mod seating;
 
-pub use engine::{plain_round, round, round_with};
+pub use engine::{plain_round, plain_round_with, round, round_with};
 pub use rounds::{Programmes, Round, Seats, Seeks};

@@ -20,9 +20,9 @@ use Rattle.round_options.specs.Options.{after_cut, standing_of}
 use Rattle.round_options.specs.declared.standing.Standing.{Standing}
 use Rattle.office_moves.specs.Facts.{SeasonFacts}
 use Rattle.office_moves.specs.State.{State, View, answered, in_window, left_by, round_at, rows_of, seat_of, standing_at, view_of, with_finals, with_round}
-use Rattle.office_moves.specs.Moves.{allot_rows, final_rows, final_seat, next_seeks, row_before, rows_along}
+use Rattle.office_moves.specs.Moves.{allot_rows, final_rows, final_seat, kept_programmes, next_seeks, row_before, rows_along}
 use Rattle.cut_arrays.specs.StateLists.{choices_along, left_along, standings_along}
-use Rattle.cut_arrays.specs.Rows.{kept_seat, kept_seats, rows_of_seats}
+use Rattle.cut_arrays.specs.Rows.{kept_seat, kept_seats, programmes_of, rows_of_seats}
 use Rattle.cut_arrays.specs.NextSeeks.{seek_for, seeks_after}
 use Rattle.cut_arrays.specs.WindowEnd.{after_cuts, seats_given, seats_of, standings, stands}
 
@@ -133,16 +133,34 @@ all_seek facts state left table last rising so turns latest full =
     ∙ (ap (λ (z : Option Round). seeks_after facts.lists facts.people (standings_along facts state) (map (λ (p : Person). seat_of facts z p.id.0) facts.people)) latest
     ∙ seeks_made facts.lists (λ p. standing_at facts (view_of state p.id.0) p.id.0 state.now) (λ p. seat_of facts (round_at state.rounds (length state.rounds)) p.id.0) facts.people))
 
+map_twice : {X Y Z : Type 0} (f : X → Y) (g : Y → Z) (xs : List X) → map g (map f xs) ≡ map (λ (x : X). g (f x)) xs
+map_twice f g [] = refl
+map_twice {X} {Y} {Z} f g (x ∷ xs) = ap (λ (zs : List Z). g (f x) ∷ zs) (map_twice f g xs)
+
+-- the seats that are kept
+all_kept : (facts : SeasonFacts) (state : State) (left : List Standing) (table : List (List Choice)) (last : Option Round) → AreRising facts.people → left ≡ left_along facts state
+    → table ≡ choices_along facts state state.now → last ≡ round_at state.rounds (length state.rounds) → length (seats_of (length facts.people) last) ≡ length facts.people
+    → kept_seats (standings left table) (seats_of (length facts.people) last) ≡ map (λ (p : Person). final_seat facts state p.id.0) facts.people
+all_kept facts state left table last rising so turns latest full =
+    ap (λ (z : List Standing). kept_seats z (seats_of (length facts.people) last)) (all_stand facts state left table so turns)
+    ∙ (ap (λ (z : List (Option Seat)). kept_seats (standings_along facts state) z) (round_along facts last rising full)
+    ∙ (ap (λ (z : Option Round). kept_seats (standings_along facts state) (map (λ (p : Person). seat_of facts z p.id.0) facts.people)) latest
+    ∙ kept_made (λ p. standing_at facts (view_of state p.id.0) p.id.0 state.now) (λ p. seat_of facts (round_at state.rounds (length state.rounds)) p.id.0) facts.people))
+
+-- their programmes
+pub all_guaranteed : (facts : SeasonFacts) (state : State) (left : List Standing) (table : List (List Choice)) (last : Option Round) → AreRising facts.people → left ≡ left_along facts state
+    → table ≡ choices_along facts state state.now → last ≡ round_at state.rounds (length state.rounds) → length (seats_of (length facts.people) last) ≡ length facts.people
+    → programmes_of (kept_seats (standings left table) (seats_of (length facts.people) last)) ≡ kept_programmes facts state
+all_guaranteed facts state left table last rising so turns latest full =
+    ap programmes_of (all_kept facts state left table last rising so turns latest full)
+    ∙ map_twice (λ (p : Person). final_seat facts state p.id.0) (λ (o : Option Seat). option_map (λ (held : Seat). held.prog) o) facts.people
+
 -- the final rows
 pub all_end : (facts : SeasonFacts) (state : State) (left : List Standing) (table : List (List Choice)) (last : Option Round) → AreRising facts.people → left ≡ left_along facts state
     → table ≡ choices_along facts state state.now → last ≡ round_at state.rounds (length state.rounds) → length (seats_of (length facts.people) last) ≡ length facts.people
     → rows_of_seats (facts.rounds + 1) facts.people (kept_seats (standings left table) (seats_of (length facts.people) last)) ≡ final_rows facts state
 all_end facts state left table last rising so turns latest full =
-    ap (λ (z : List (Option Seat)). rows_of_seats (facts.rounds + 1) facts.people z) (
-    ap (λ (z : List Standing). kept_seats z (seats_of (length facts.people) last)) (all_stand facts state left table so turns)
-    ∙ (ap (λ (z : List (Option Seat)). kept_seats (standings_along facts state) z) (round_along facts last rising full)
-    ∙ (ap (λ (z : Option Round). kept_seats (standings_along facts state) (map (λ (p : Person). seat_of facts z p.id.0) facts.people)) latest
-    ∙ kept_made (λ p. standing_at facts (view_of state p.id.0) p.id.0 state.now) (λ p. seat_of facts (round_at state.rounds (length state.rounds)) p.id.0) facts.people)))
+    ap (λ (z : List (Option Seat)). rows_of_seats (facts.rounds + 1) facts.people z) (all_kept facts state left table last rising so turns latest full)
     ∙ rows_made (facts.rounds + 1) (final_seat facts state) facts.people
 
 -- the rows of a round

@@ -1,17 +1,19 @@
 -- The rows of seats from a place on.
-use Rattle.std.proofs.Common.{◌≡◌, ◌<◌, ◌+◌, ℕ, zero, suc, add-one, List, [], ◌∷◌, ◌++◌, Option, Some, None, length, drop, get_or, arith, refl, sym, ap, ◌∙◌, subst, append_assoc}
+use Rattle.std.proofs.Common.{◌≡◌, ◌<◌, ◌≤◌, ◌+◌, ℕ, zero, suc, add-one, List, [], ◌∷◌, ◌++◌, Option, Some, None, length, take, drop, get_or, arith, refl, sym, ap, ◌∙◌, subst, append_assoc}
 use Rattle.std.specs.Prelude.{slice_get, option_map}
-use Rattle.std.proofs.lemmas.Option.{same_Some, slice_get-get_or}
+use Rattle.std.proofs.lemmas.List.{length-map}
+use Rattle.std.proofs.lemmas.Option.{same_Some, slice_get-get_or, slice_get-map}
 use Rattle.office_base.specs.declared.choice.Choice.{Choice}
 use Rattle.office_base.specs.declared.seat.Seat.{Seat}
 use Rattle.office_base.specs.declared.person.CandId.{CandId}
 use Rattle.office_base.specs.declared.person.Person.{Person}
+use Rattle.office_base.specs.declared.person.ProgId.{ProgId}
 use Rattle.kept_rows.specs.declared.rows.AllotRow.{AllotRow}
 use Rattle.office_moves.specs.Moves.{row_before}
 use Rattle.round_options.specs.declared.standing.Standing.{Standing}
-use Rattle.cut_arrays.specs.Rows.{kept_seat, kept_seats, rows_of_seats}
+use Rattle.cut_arrays.specs.Rows.{kept_seat, kept_seats, programmes_of, rows_of_seats}
 use Rattle.cut_arrays.specs.WindowEnd.{standings, stands}
-use Rattle.cut_arrays.proofs.PlaceLemmas.{stood_at}
+use Rattle.cut_arrays.proofs.PlaceLemmas.{standings_length, stood_at, take_next, take_whole}
 
 row_first : (number : ℕ) (cand : CandId) (seat : Option Seat) (rows : List AllotRow) → row_before number cand seat rows ≡ row_before number cand seat [] ++ rows
 row_first number cand None rows = refl
@@ -55,3 +57,31 @@ pub kept_there : (left : List Standing) (table : List (List Choice)) (seats : Li
     → option_map (stands (get_or left at e)) (slice_get table at) ≡ Some s → slice_get seats at ≡ Some seat → kept ≡ kept_seat s seat → slice_get (kept_seats (standings left table) seats) at ≡ Some kept
 kept_there left table seats at count e s seat kept less full stood given same =
     kept_at (standings left table) seats at s seat (stood_at left table at (get_or left at e) s (slice_get-get_or left at e (omega (arith, less, full))) stood) given ∙ ap Some (sym same)
+
+-- ---- the programmes of kept seats
+
+kept_length : (all : List Standing) (seats : List (Option Seat)) → length seats ≡ length all → length (kept_seats all seats) ≡ length all
+kept_length [] seats e = refl
+kept_length (x ∷ all) [] e = absurd (omega arith)
+kept_length (x ∷ all) (y ∷ seats) e = ap suc (kept_length all seats (omega arith))
+
+-- with the one at a place more
+pub programmes_more : (left : List Standing) (table : List (List Choice)) (seats : List (Option Seat)) (at : ℕ) (e s : Standing) (seat kept : Option Seat) (programme : Option ProgId)
+    (done new : List (Option ProgId)) → at < length left → option_map (stands (get_or left at e)) (slice_get table at) ≡ Some s → slice_get seats at ≡ Some seat → kept ≡ kept_seat s seat
+    → programme ≡ option_map (λ (held : Seat). held.prog) kept → done ≡ take at (programmes_of (kept_seats (standings left table) seats)) → new ≡ done ++ programme ∷ []
+    → new ≡ take (at + 1) (programmes_of (kept_seats (standings left table) seats))
+programmes_more left table seats at e s seat kept programme done new less stood given is prog so made =
+    let all = kept_seats (standings left table) seats in
+    let there = kept_there left table seats at (length left) e s seat kept less refl stood given is in
+    let here : slice_get (programmes_of all) at ≡ Some programme = slice_get-map (λ (o : Option Seat). option_map (λ (held : Seat). held.prog) o) all at
+    ∙ (ap (λ (o : Option (Option Seat)). option_map (λ (z : Option Seat). option_map (λ (held : Seat). held.prog) z) o) there ∙ ap Some (sym prog)) in
+    take_next (programmes_of all) done new at programme so here made
+
+pub programmes_whole : (left : List Standing) (table : List (List Choice)) (seats : List (Option Seat)) (at : ℕ) (done : List (Option ProgId)) → length left ≤ at → length table ≡ length left
+    → length seats ≡ length left → done ≡ take at (programmes_of (kept_seats (standings left table) seats)) → done ≡ programmes_of (kept_seats (standings left table) seats)
+programmes_whole left table seats at done end turns given so =
+    let all = kept_seats (standings left table) seats in
+    let size = standings_length left table turns in
+    let full = kept_length (standings left table) seats (given ∙ sym size) in
+    let long = length-map all (λ (o : Option Seat). option_map (λ (held : Seat). held.prog) o) in
+    take_whole (programmes_of all) done at so (omega (arith, size, full, long, end))

@@ -1,7 +1,8 @@
 -- The rows of seats, along the people.
-use Rattle.std.specs.Prelude.{ℕ, List, [], ◌∷◌, Option, None, if◌then◌else◌}
+use Rattle.std.specs.Prelude.{ℕ, List, [], ◌∷◌, Option, None, map, option_map, if◌then◌else◌}
 use Rattle.office_base.specs.declared.seat.Seat.{Seat}
 use Rattle.office_base.specs.declared.person.Person.{Person}
+use Rattle.office_base.specs.declared.person.ProgId.{ProgId}
 use Rattle.kept_rows.specs.declared.rows.AllotRow.{AllotRow}
 use Rattle.round_options.specs.Options.{holds}
 use Rattle.round_options.specs.declared.standing.Standing.{Standing}
@@ -22,3 +23,7 @@ abbrev pub kept_seats : List Standing → List (Option Seat) → List (Option Se
 kept_seats [] seats = []
 kept_seats (standing ∷ all) [] = []
 kept_seats (standing ∷ all) (seat ∷ seats) = kept_seat standing seat ∷ kept_seats all seats
+
+-- the programmes of some seats
+abbrev pub programmes_of : List (Option Seat) → List (Option ProgId)
+programmes_of seats = map (λ seat. option_map (λ held. held.prog) seat) seats

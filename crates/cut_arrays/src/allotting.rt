@@ -1,13 +1,13 @@
 // The rows of seats.
-ghost use Rattle.std.specs.Prelude.{◌≡◌, ◌<◌, ◌≤◌, ◌+◌, ◌^◌, ◌++◌, [], IfOk, OnOk, length, option_copied};
+ghost use Rattle.std.specs.Prelude.{◌≡◌, ◌<◌, ◌≤◌, ◌+◌, ◌^◌, ◌++◌, [], IfOk, OnOk, length, option_copied, option_map};
 ghost use Rattle.office_moves.specs.Moves.{row_before};
-ghost use Rattle.cut_arrays.specs.Rows.{kept_seat, kept_seats, rows_of_seats};
+ghost use Rattle.cut_arrays.specs.Rows.{kept_seat, kept_seats, programmes_of, rows_of_seats};
 ghost use Rattle.cut_arrays.specs.WindowEnd.{seats_of, standings};
 
 use crate::standing::{round_seat, stand};
 use answer_table::AnswerTable;
 use kept_rows::{AllotRow, AllotRows};
-use office_base::{CandId, Listed, OutOfMemory, Person, Seat};
+use office_base::{CandId, Listed, OutOfMemory, Person, ProgId, Seat};
 use round_options::Standing;
 use rounds::Round;
 use std::alloc::Global;
@@ -54,6 +54,39 @@ fn kept_seat(standing: Standing, seat: Option<Seat>) -> Option<Seat>
     ensures { result ≡ kept_seat standing seat }
 {
     if standing.holds() { seat } else { None }
+}
+
+/// Returns the programme of a seat, where there is one.
+fn programme_of(seat: Option<Seat>) -> Option<ProgId>
+    ensures { result ≡ option_map (λ held. held.prog) seat }
+{
+    match seat {
+        Some(seat) => Some(seat.prog),
+        None => None,
+    }
+}
+
+/// Returns for each of the people the programme of the seat that they keep after the answers of a window, by how the last cut left
+/// them and the last published round, where there is one.
+pub fn kept_programmes(
+    alloc: Global,
+    left: &[Standing],
+    table: &AnswerTable,
+    last: Option<&Round>,
+) -> Result<Vec<Option<ProgId>>, OutOfMemory>
+    requires table { length table.now ≡ length left.now }
+    requires seats { length (seats_of (length left.now) (option_copied last)) ≡ length left.now }
+    ensures { IfOk result (λ kept. kept.items ≡ programmes_of (kept_seats
+        (standings left.now table.now) (seats_of (length left.now) (option_copied last.entry)))) }
+{
+    let count = left.len();
+    let mut kept = Vec::with_capacity(alloc, count)?;
+    for (at, standing) in left.iter().enumerate() {
+        let standing = stand(*standing, table, at);
+        let seat = kept_seat(standing, round_seat(last, at, count));
+        kept.push(programme_of(seat))?;
+    }
+    Ok(kept)
 }
 
 /// The final rows: one for each of the people who keeps a seat after the answers of the last window, by the last published round, where there is one.

@@ -10,6 +10,6 @@ pub mod leaving;
 pub mod seeking;
 mod standing;
 
-pub use allotting::{final_rows, rows_of_round};
+pub use allotting::{final_rows, kept_programmes, rows_of_round};
 pub use leaving::leave_all;
 pub use seeking::{place_of, seeks_after};

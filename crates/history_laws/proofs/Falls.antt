@@ -1,5 +1,5 @@
 -- The step from one round to the next: what everybody seeks narrows, and nobody falls.
-use Rattle.std.proofs.Common.{◌≡◌, ◌≢◌, ◌<◌, ◌≤◌, ℕ, zero, suc, true, false, List, Option, Some, None, length, arith, refl, sym, ap, ◌∙◌, subst}
+use Rattle.std.proofs.Common.{◌≡◌, ◌≢◌, ◌<◌, ◌≤◌, inl, inr, ℕ, zero, suc, Bool, true, false, List, Option, Some, None, length, arith, refl, sym, ap, ◌∙◌, subst, if◌then◌else◌}
 use Rattle.std.specs.Prelude.{slice_get, option_map, IsSome, nat_le}
 use Rattle.std.proofs.lemmas.Bool.{and_from, and_parts, eq-eqb, eqb-true, le-leb, leb-true}
 use Rattle.std.proofs.lemmas.Option.{slice_get_within}
@@ -9,9 +9,12 @@ use Rattle.office_base.specs.Lists.{Pairwise}
 use Rattle.office_base.specs.declared.seat.Seat.{Seat}
 use Rattle.office_base.specs.declared.person.Person.{Person}
 use Rattle.office_base.specs.declared.person.ProgId.{ProgId}
-use Rattle.allocations.specs.Fair.{IsFair, IsNextMarket, IsOwn}
-use Rattle.allocations.specs.Market.{Seeker, applies, place_of, seat_at}
-use Rattle.allocations.proofs.Falls as falls
+use Rattle.allocations.specs.Fair.{IsNextMarket, IsOwn}
+use Rattle.allocations.specs.Market.{Seeker, applicants, applies, place_of, seat_at}
+use Rattle.allocations.proofs.Claims.{applicants_may}
+use Rattle.allocations.proofs.Those.{those_has}
+use Rattle.kept_seats.proofs.Kept.{not_chosen, not_kept}
+use Rattle.office_base.proofs.People.{at_person-get}
 use Rattle.allocations.proofs.Places.{applies_true}
 use Rattle.choice_lists.specs.Choices.{list_of}
 use Rattle.seat_matrix.specs.Matrix.{SeatTable}
@@ -20,7 +23,7 @@ use Rattle.seeks.specs.Seek.{are_together, is_beside, is_left, same_institute, s
 use Rattle.seeks.specs.declared.seek.Seek.{Seek}
 use Rattle.seeks.specs.declared.seek.Seek.TheVariants.{Whole, Nothing}
 use Rattle.seeks.proofs.Left.{leaves_same}
-use Rattle.rounds.specs.Rule.{MayApplyIn, ProgrammesChooseWell, ProgrammesGrow, nobody, rule_of}
+use Rattle.rounds.specs.Rule.{MayApplyIn, ProgrammesChooseWell, ProgrammesGrow, is_programme, rule_of, steps_of}
 use Rattle.rounds.specs.declared.round.Round.{Round}
 use Rattle.rounds.proofs.Entrants.{market}
 use Rattle.round_options.specs.Options.{holds, seek_after}
@@ -29,11 +32,11 @@ use Rattle.round_options.specs.declared.standing.Standing.TheVariants.{Waiting, 
 use Rattle.office_moves.specs.Facts.{IsSound, SeasonFacts, lists_in_order}
 use Rattle.office_moves.specs.State.{State, seat_in}
 use Rattle.office_moves.specs.Raised.{matrix_of_round}
-use Rattle.office_moves.specs.Promise.{HoldsOn, IsNoWorse, standing_then}
+use Rattle.office_moves.specs.Promise.{HoldsOn, IsNoWorse, kept_then, standing_then}
 use Rattle.office_moves.proofs.Narrows.{FitsLast, holder_narrows, left_there, narrows_applies, there_left}
-use Rattle.history_laws.specs.Course.{IsCourse, left_then, seek_then, seeks_then}
+use Rattle.history_laws.specs.Course.{IsCourse, guaranteed_then, kept_programmes_then, left_then, seek_then, seeks_then}
 use Rattle.history_laws.proofs.Entering.{entrants, own_there}
-use Rattle.history_laws.proofs.Fits.{Answered, SeatOf, FitsCut, cut_fits, enters, follows, full_seekers, held_seat, not_true, seat_at_place, seat_is, seat_there, seekers_then, still_waits}
+use Rattle.history_laws.proofs.Fits.{Answered, SeatOf, FitsCut, cut_fits, enters, follows, full_seekers, held_seat, map_at, not_true, seat_at_place, seat_is, seat_there, seekers_then, still_waits}
 
 -- ---- one candidate
 
@@ -236,26 +239,51 @@ wants_again facts state before id old course known back keeps =
     let again = left_again more list standing k old.prog keeps known.at.there (in_matrix facts state before id (suc (suc before)) old course known) in
     subst (λ l. place_of l old.prog.0 < length l) (sym back.leaves) (there_left more (seek_after standing (Some k)) list old.prog.0 k old.prog known.at.there refl again)
 
--- and has a seat in it
-never_without : (facts : SeasonFacts) (state : State) (before id : ℕ) (old : Seat) → IsSound facts → ProgrammesChooseWell → ProgrammesGrow → IsCourse facts state → FitAll facts state before
-    → (known : SeatOf facts state before id old) → (back : Returns facts state before id known.place old) → holds (standing_then facts state (suc before) id) ≡ true → back.seat ≡ None → ⊥
-never_without facts state before id old sound well grow course fit known back keeps none =
-    let table = matrix_of_round facts state (suc before) in
+-- a kept seat guarantees one of its programme
+sure_of : (p : ℕ) (o : Option Seat) (seat : Seat) → o ≡ Some seat → seat.prog.0 ≡ p → is_programme p (Some (option_map (λ (held : Seat). held.prog) o)) ≡ true
+sure_of p None seat e is = absurd (cc)
+sure_of p (Some held) seat e is = let same : held ≡ seat = cc in eq-eqb held.prog.0 p (ap (λ (z : Seat). z.prog.0) same ∙ is)
+
+keeps_it : (keeps : Bool) (o : Option Seat) → keeps ≡ true → (if keeps then o else None) ≡ o
+keeps_it true o e = refl
+keeps_it false o e = absurd (cc)
+
+guaranteed_again : (facts : SeasonFacts) (state : State) (before id i : ℕ) (old : Seat) (person : Person) → IsSound facts → seat_in facts state.rounds (suc before) id ≡ Some old
+    → slice_get facts.people i ≡ Some person → person.id.0 ≡ id → holds (standing_then facts state (suc before) id) ≡ true → guaranteed_then facts state (suc before) old.prog.0 person ≡ true
+guaranteed_again facts state before id i old person sound had there is keeps =
+    let at = at_person-get facts.people (kept_programmes_then facts state (suc before)) i person sound.ranks.rising there in
+    let mapped = map_at (λ (person : Person). option_map (λ (held : Seat). held.prog) (kept_then facts state (suc before) person.id.0)) facts.people i person there in
+    let kept : kept_then facts state (suc before) person.id.0 ≡ Some old =
+    subst (λ (n : ℕ). kept_then facts state (suc before) n ≡ Some old) (sym is) (keeps_it (holds (standing_then facts state (suc before) id)) (seat_in facts state.rounds (suc before) id) keeps ∙ had) in
+    subst (λ (o : Option (Option ProgId)). is_programme old.prog.0 o ≡ true) (sym (at ∙ mapped)) (sure_of old.prog.0 (kept_then facts state (suc before) person.id.0) old kept refl)
+
+-- and has a seat in it, since it is guaranteed
+never_without : (facts : SeasonFacts) (state : State) (before id : ℕ) (old : Seat) → IsSound facts → ProgrammesChooseWell → IsCourse facts state
+    → seat_in facts state.rounds (suc before) id ≡ Some old → (known : SeatOf facts state before id old) → (back : Returns facts state before id known.place old)
+    → holds (standing_then facts state (suc before) id) ≡ true → back.seat ≡ None → ⊥
+never_without facts state before id old sound well course had known back keeps none =
+    let p = old.prog.0 in
     let more = matrix_of_round facts state (suc (suc before)) in
-    let made = course.made before known.round known.is in
-    let raised = course.raised (suc before) in
-    let of_table = entrants facts table sound (course.programmes (suc before)) in
-    let fair' : IsFair (rule_of facts.version nobody more) (length table.programmes) (seekers_then facts state (suc before)) back.next.seats =
-    subst (λ (ps : List (List ℕ × Home)). IsFair (rule_of facts.version nobody more) (length ps) (seekers_then facts state (suc before)) back.next.seats)
-    raised.programmes (course.made (suc before) back.next back.is).best.fair in
-    let held : slice_get known.round.seats known.place ≡ Some (Some (seat_at old.prog.0 old.step)) = known.has in
-    let empty : slice_get back.next.seats known.place ≡ Some None = subst (λ o. slice_get back.next.seats known.place ≡ Some o) none back.at in
-    falls.nobody_falls (rule_of facts.version nobody table) (rule_of facts.version nobody more) (MayApplyIn table) (length table.programmes) old.prog.0 known.place
-    (seekers_then facts state before) (seekers_then facts state (suc before)) known.round.seats back.next.seats known.s back.t old.step
-    (market table facts.people (lists_in_order facts) (seeks_then facts state before) (course.seats (suc before)) of_table) (well facts.version nobody table (course.seats (suc before)))
-    (grow facts.version nobody nobody table more (λ p person sure. sure) (course.seats (suc before)) (course.seats (suc (suc before))) raised) made.best.fair fair'
-    (next_market facts state before known.round sound course fit known.is) (in_matrix facts state before id (suc before) old course known) known.there back.there held
-    (wants_again facts state before id old course known back keeps) empty
+    let count = length more.programmes in
+    let guaranteed = guaranteed_then facts state (suc before) in
+    let rule = rule_of facts.version guaranteed more in
+    let next = seekers_then facts state (suc before) in
+    let seats = back.next.seats in
+    let fair = (course.made (suc before) back.next back.is).best.fair in
+    let in_market = market more facts.people (lists_in_order facts) (seeks_then facts state (suc before)) (course.seats (suc (suc before))) (entrants facts more sound (course.programmes (suc (suc before)))) in
+    let wanted = wants_again facts state before id old course known back keeps in
+    let below = in_matrix facts state before id (suc (suc before)) old course known in
+    let empty : slice_get seats known.place ≡ Some None = subst (λ o. slice_get seats known.place ≡ Some o) none back.at in
+    let applied = applies_true p back.t.list None wanted (omega (arith, wanted)) in
+    let among = those_has (λ s seat. applies p s.list seat) next seats known.place back.t None back.there empty applied in
+    let may = applicants_may rule (MayApplyIn more) count p next seats in_market (well facts.version guaranteed more (course.seats (suc (suc before)))) below fair.allocation.full in
+    let sure = guaranteed_again facts state before id known.place old back.t.person sound had back.person_at back.id_is keeps in
+    elim ((well facts.version guaranteed more (course.seats (suc (suc before)))).decided p (applicants p next seats) back.t.person may) [
+      | inl admitted ↦ let has = (fair.agrees p known.place back.t admitted.0 below back.there).0 admitted.1 in let e : None ≡ Some (seat_at p admitted.0) = (let f = sym empty ∙ has in cc) in cc
+      | inr refused ↦
+          not_kept guaranteed (steps_of facts.version more) p (applicants p next seats) back.t.person refused
+          (record { guaranteed_there = sure; applies = among; not_chosen = not_chosen guaranteed (steps_of facts.version more) p (applicants p next seats) back.t.person refused })
+    ]
 
 -- which is no worse
 no_worse : (facts : SeasonFacts) (state : State) (before id : ℕ) (old new : Seat) → IsCourse facts state → (known : SeatOf facts state before id old)
@@ -287,7 +315,7 @@ step_holds facts state before id sound well grow course less fit keeps =
     let old = some_seat (seat_in facts state.rounds (suc before) id) has in
     let known = seat_is facts state before id old.0 sound course old.1 in
     let back = returns facts state before id old.0 sound course less old.1 known in
-    let new = some_held back.seat (never_without facts state before id old.0 sound well grow course fit known back keeps) in
+    let new = some_held back.seat (never_without facts state before id old.0 sound well course old.1 known back keeps) in
     let seated : seat_in facts state.rounds (suc (suc before)) id ≡ Some new.0 =
     subst (λ n. seat_in facts state.rounds (suc (suc before)) n ≡ Some new.0) back.id_is
     (seat_there facts state.rounds (suc before) known.place back.next back.t.person back.seat sound back.is back.person_at back.at ∙ new.1) in

@@ -1,5 +1,6 @@
 pub mod Accepted
 mod Acts
+mod Alone
 mod Answered
 pub mod Changes
 mod Coursed

@@ -13,19 +13,20 @@ use Rattle.choice_lists.specs.Choices.{list_of}
 use Rattle.seat_matrix.specs.Matrix.{SeatTable}
 use Rattle.seeks.specs.declared.seek.Seek.{Seek}
 use Rattle.rounds.specs.Round.{IsRound}
-use Rattle.rounds.specs.Rule.{nobody}
+use Rattle.rounds.specs.Rule.{guarantees}
+use Rattle.office_base.specs.declared.person.ProgId.{ProgId}
 use Rattle.rounds.specs.declared.round.Round.{Round}
 use Rattle.round_options.specs.Options.{holds, seek_after}
 use Rattle.round_options.specs.declared.standing.Standing.{Standing}
 use Rattle.office_moves.specs.Facts.{SeasonFacts, lists_in_order}
 use Rattle.office_moves.specs.State.{State, last_seat, opening, seat_in, with_finals, with_raise, with_round, with_row}
 use Rattle.office_moves.specs.Raised.{matrix_at, matrix_of_round, raised}
-use Rattle.office_moves.specs.Moves.{IsNextRound, final_rows, final_seat, next_seek, next_seeks, row_before, rows_along}
+use Rattle.office_moves.specs.Moves.{IsNextRound, final_rows, final_seat, guaranteed_next, kept_programmes, next_seek, next_seeks, row_before, rows_along}
 use Rattle.office_moves.specs.History.{Reaches}
-use Rattle.office_moves.specs.Promise.{kept_to_the_end, standing_then}
+use Rattle.office_moves.specs.Promise.{kept_then, kept_to_the_end, standing_then}
 use Rattle.office_moves.specs.declared.moves.Act.{Act}
 use Rattle.office_moves.specs.declared.moves.Entry.{Entry}
-use Rattle.history_laws.specs.Course.{seek_then, seeks_then}
+use Rattle.history_laws.specs.Course.{guaranteed_then, kept_programmes_then, seek_then, seeks_then}
 use Rattle.history_laws.proofs.Accepted.{is_open}
 use Rattle.history_laws.proofs.Changes.{Answered, Finishes, Follows, Publishes, Raised}
 use Rattle.history_laws.proofs.Rows.{before_same}
@@ -51,35 +52,69 @@ seeks_stay facts old new window stays =
     (λ person. sought_same facts person.id.0 _ _ _ _ (stays person.id.0).standing (stays person.id.0).seat)
 
 -- what is sought at a cut is what is sought next before it
-seeks_next : (facts : SeasonFacts) (old : State) → length old.rounds ≡ old.now → seeks_then facts old old.now ≡ next_seeks facts old
+pub seeks_next : (facts : SeasonFacts) (old : State) → length old.rounds ≡ old.now → seeks_then facts old old.now ≡ next_seeks facts old
 seeks_next facts old same =
     map_same (λ (person : Person). seek_then facts old old.now person.id.0) (λ (person : Person). next_seek facts old person.id.0) facts.people
     (λ person. sought_same facts person.id.0 _ _ _ _ refl (ap (λ n. seat_in facts old.rounds n person.id.0) (sym same)))
+
+-- ---- who was guaranteed a seat
+
+-- the seat, if the candidate keeps it by the standing
+abbrev kept_by : Standing → Option Seat → Option Seat
+kept_by standing seat = if holds standing then seat else None
+
+-- the programme of a seat that is kept
+abbrev kept_programme : Standing → Option Seat → Option ProgId
+kept_programme standing seat = option_map (λ (held : Seat). held.prog) (kept_by standing seat)
+
+kept_same : (a b : Standing) (x y : Option Seat) → a ≡ b → x ≡ y → kept_programme a x ≡ kept_programme b y
+kept_same a b x y e f = ap (λ s. kept_programme s x) e ∙ ap (λ z. kept_programme b z) f
+
+kept_stay : (facts : SeasonFacts) (old new : State) (window : ℕ) → ((id : ℕ) → Stays facts old new window id) → kept_programmes_then facts new window ≡ kept_programmes_then facts old window
+kept_stay facts old new window stays =
+    map_same (λ (person : Person). option_map (λ (held : Seat). held.prog) (kept_then facts new window person.id.0))
+    (λ (person : Person). option_map (λ (held : Seat). held.prog) (kept_then facts old window person.id.0)) facts.people
+    (λ person. kept_same _ _ _ _ (stays person.id.0).standing (stays person.id.0).seat)
+
+-- the seats that are kept at a cut are those that are kept next before it
+pub kept_next : (facts : SeasonFacts) (old : State) → length old.rounds ≡ old.now → kept_programmes_then facts old old.now ≡ kept_programmes facts old
+kept_next facts old same =
+    map_same (λ (person : Person). option_map (λ (held : Seat). held.prog) (kept_then facts old old.now person.id.0))
+    (λ (person : Person). option_map (λ (held : Seat). held.prog) (final_seat facts old person.id.0)) facts.people
+    (λ person. kept_same _ _ _ _ refl (ap (λ n. seat_in facts old.rounds n person.id.0) (sym same)))
 
 -- ---- how rounds were made
 
 -- the rounds of a state were made so
 abbrev pub AreMade : SeasonFacts → State → Type 0
 AreMade facts state = (before : ℕ) (round : Round) → slice_get state.rounds before ≡ Some round
-    → IsRound facts.version nobody (matrix_of_round facts state (suc before)) facts.people (lists_in_order facts) (before + 1) (seeks_then facts state before) round
+    → IsRound facts.version (guaranteed_then facts state before) (matrix_of_round facts state (suc before)) facts.people (lists_in_order facts) (before + 1) (seeks_then facts state before) round
+
+-- a round by the matrix, the seats kept and the seeks of a cut
+abbrev IsRoundBy : SeasonFacts → ℕ → Round → SeatTable → List (Option ProgId) → List Seek → Type 0
+IsRoundBy facts before round table kept seeks = IsRound facts.version (guarantees facts.people kept) table facts.people (lists_in_order facts) (before + 1) seeks round
 
 made_again : (facts : SeasonFacts) (old new : State) (before : ℕ) (round : Round) → matrix_of_round facts new (suc before) ≡ matrix_of_round facts old (suc before)
-    → seeks_then facts new before ≡ seeks_then facts old before
-    → IsRound facts.version nobody (matrix_of_round facts old (suc before)) facts.people (lists_in_order facts) (before + 1) (seeks_then facts old before) round
-    → IsRound facts.version nobody (matrix_of_round facts new (suc before)) facts.people (lists_in_order facts) (before + 1) (seeks_then facts new before) round
-made_again facts old new before round matrix seeks made =
-    subst (λ (m : SeatTable). IsRound facts.version nobody m facts.people (lists_in_order facts) (before + 1) (seeks_then facts new before) round) (sym matrix)
-    (subst (λ (z : List Seek). IsRound facts.version nobody (matrix_of_round facts old (suc before)) facts.people (lists_in_order facts) (before + 1) z round) (sym seeks) made)
+    → ((id : ℕ) → Stays facts old new before id)
+    → IsRoundBy facts before round (matrix_of_round facts old (suc before)) (kept_programmes_then facts old before) (seeks_then facts old before)
+    → IsRoundBy facts before round (matrix_of_round facts new (suc before)) (kept_programmes_then facts new before) (seeks_then facts new before)
+made_again facts old new before round matrix stays made =
+    subst (λ (m : SeatTable). IsRoundBy facts before round m (kept_programmes_then facts new before) (seeks_then facts new before)) (sym matrix)
+    (subst (λ (k : List (Option ProgId)). IsRoundBy facts before round (matrix_of_round facts old (suc before)) k (seeks_then facts new before)) (sym (kept_stay facts old new before stays))
+    (subst (λ (z : List Seek). IsRoundBy facts before round (matrix_of_round facts old (suc before)) (kept_programmes_then facts old before) z) (sym (seeks_stay facts old new before stays)) made))
 
 -- the round that was just published
 made_now : (facts : SeasonFacts) (old : State) (round : Round) → Runs facts old → length old.rounds ≡ old.now → IsNextRound facts old round
-    → IsRound facts.version nobody (matrix_of_round facts (with_round old round) (suc old.now)) facts.people (lists_in_order facts) (old.now + 1) (seeks_then facts (with_round old round) old.now) round
+    → IsRoundBy facts old.now round (matrix_of_round facts (with_round old round) (suc old.now)) (kept_programmes_then facts (with_round old round) old.now) (seeks_then facts (with_round old round) old.now)
 made_now facts old round runs same next =
-    let matrix : matrix_of_round facts (with_round old round) (suc old.now) ≡ matrix_at facts old = ap (λ (z : List RaiseRow). raised facts.matrix z) (runs.raises (suc old.now) (omega arith)) in
-    let seeks : seeks_then facts (with_round old round) old.now ≡ next_seeks facts old =
-    seeks_stay facts old (with_round old round) old.now (λ id. published_stays facts old round old.now id (omega (arith, same))) ∙ seeks_next facts old same in
-    subst (λ (m : SeatTable). IsRound facts.version nobody m facts.people (lists_in_order facts) (old.now + 1) (seeks_then facts (with_round old round) old.now) round) (sym matrix)
-    (subst (λ (z : List Seek). IsRound facts.version nobody (matrix_at facts old) facts.people (lists_in_order facts) (old.now + 1) z round) (sym seeks) next)
+    let new = with_round old round in
+    let stays : (id : ℕ) → Stays facts old new old.now id = λ id. published_stays facts old round old.now id (omega (arith, same)) in
+    let matrix : matrix_of_round facts new (suc old.now) ≡ matrix_at facts old = ap (λ (z : List RaiseRow). raised facts.matrix z) (runs.raises (suc old.now) (omega arith)) in
+    let kept : kept_programmes_then facts new old.now ≡ kept_programmes facts old = kept_stay facts old new old.now stays ∙ kept_next facts old same in
+    let seeks : seeks_then facts new old.now ≡ next_seeks facts old = seeks_stay facts old new old.now stays ∙ seeks_next facts old same in
+    subst (λ (m : SeatTable). IsRoundBy facts old.now round m (kept_programmes_then facts new old.now) (seeks_then facts new old.now)) (sym matrix)
+    (subst (λ (k : List (Option ProgId)). IsRoundBy facts old.now round (matrix_at facts old) k (seeks_then facts new old.now)) (sym kept)
+    (subst (λ (z : List Seek). IsRoundBy facts old.now round (matrix_at facts old) (kept_programmes facts old) z) (sym seeks) next))
 
 -- a round of the list with one more is one of the list, or the new one at the end
 last_or_before : (rounds : List Round) (last : Round) (before : ℕ) (round : Round) → slice_get (rounds ++ last ∷ []) before ≡ Some round
@@ -102,9 +137,7 @@ made_follows facts old new act runs after made (Answered row asks is n e) =
     let here = opened.0 in
     subst (λ s. AreMade facts s) (sym e) (λ before round there.
     let within = slice_get_within old.rounds before round there in
-    made_again facts old (with_row old row) before round refl
-    (seeks_stay facts old (with_row old row) before (λ id. answered_stays facts old row before id (omega (arith, here, same, within))))
-    (made before round there))
+    made_again facts old (with_row old row) before round refl (λ id. answered_stays facts old row before id (omega (arith, here, same, within))) (made before round there))
 made_follows facts old new act runs after made (Raised row code asks found known is n e) =
     let opened = is_open old.now facts.rounds row.window n.opened in
     let same = runs.time.order opened.1 in
@@ -113,7 +146,7 @@ made_follows facts old new act runs after made (Raised row code asks found known
     let within = slice_get_within old.rounds before round there in
     made_again facts old (with_raise old row) before round
     (ap (λ (z : List RaiseRow). raised facts.matrix z) (before_same (suc before) old.raises row (omega (arith, here, same, within))))
-    refl (made before round there))
+    (λ id. record { left = refl; standing = refl; seat = refl }) (made before round there))
 made_follows facts old new act runs after made (Publishes window round asks is cuts less next e) =
     let same = runs.time.order (omega (arith, less)) in
     subst (λ s. AreMade facts s) (sym e) (λ before other there.
@@ -121,18 +154,19 @@ made_follows facts old new act runs after made (Publishes window round asks is c
       | inl past ↦
           let early = past.0 in
           made_again facts old (with_round old round) before other refl
-          (seeks_stay facts old (with_round old round) before (λ id. published_stays facts old round before id (omega (arith, early))))
+          (λ id. published_stays facts old round before id (omega (arith, early)))
           (made before other past.1)
       | inr last ↦
           let at : old.now ≡ before = sym (last.0 ∙ same) in
-          subst (λ (n : ℕ). IsRound facts.version nobody (matrix_of_round facts (with_round old round) (suc n)) facts.people (lists_in_order facts) (n + 1) (seeks_then facts (with_round old round) n) other) at
-          (subst (λ (r : Round). IsRound facts.version nobody (matrix_of_round facts (with_round old round) (suc old.now)) facts.people (lists_in_order facts) (old.now + 1) (seeks_then facts (with_round old round) old.now) r)
-          last.1 (made_now facts old round runs same next))
+          let new = with_round old round in
+          subst (λ (n : ℕ). IsRoundBy facts n other (matrix_of_round facts new (suc n)) (kept_programmes_then facts new n) (seeks_then facts new n)) at
+          (subst (λ (r : Round). IsRoundBy facts old.now r (matrix_of_round facts new (suc old.now)) (kept_programmes_then facts new old.now) (seeks_then facts new old.now)) last.1
+          (made_now facts old round runs same next))
     ])
 made_follows facts old new act runs after made (Finishes window asks is cuts last e) =
     subst (λ s. AreMade facts s) (sym e) (λ before round there.
     made_again facts old (with_finals old (final_rows facts old)) before round refl
-    (seeks_stay facts old (with_finals old (final_rows facts old)) before (λ id. finished_stays facts old before id))
+    (λ id. finished_stays facts old before id)
     (made before round there))
 
 pub rounds_made : (facts : SeasonFacts) (entries : List Entry) (state : State) → Reaches facts opening entries state → AreMade facts state
@@ -151,10 +185,6 @@ rows_same number f g (person ∷ people) same =
 
 none_yet : (facts : SeasonFacts) (state : State) → state.finals ≡ None → AreLast facts state
 none_yet facts state none rows some = absurd (cc)
-
--- the seat of the last round, if the candidate holds it by the standing
-abbrev kept_by : Standing → Option Seat → Option Seat
-kept_by standing seat = if holds standing then seat else None
 
 final_same : (facts : SeasonFacts) (old : State) (id : ℕ) → old.now ≡ facts.rounds → length old.rounds ≡ old.now
     → final_seat facts old id ≡ kept_to_the_end facts (with_finals old (final_rows facts old)) id

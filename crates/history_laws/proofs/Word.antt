@@ -3,7 +3,7 @@ use Rattle.std.proofs.Common.{◌≡◌, ◌⊎◌, inl, inr, ℕ, suc, true, Li
 use Rattle.std.specs.Prelude.{slice_get, IsSome}
 use Rattle.allocations.specs.Market.{applicants}
 use Rattle.allocations.proofs.Claims.{fair_justified}
-use Rattle.rounds.specs.Rule.{AreSeeks, MayApplyIn, ProgrammesChooseWell, ProgrammesGrow, nobody, rule_of, seekers_of}
+use Rattle.rounds.specs.Rule.{AreSeeks, MayApplyIn, ProgrammesChooseWell, ProgrammesGrow, StepsChooseWell, nobody, rule_of, seekers_of}
 use Rattle.rounds.specs.declared.round.Round.{Round}
 use Rattle.rounds.proofs.Entrants.{market}
 use Rattle.seat_matrix.specs.Matrix.{seats_in}
@@ -15,16 +15,17 @@ use Rattle.office_moves.specs.Raised.{matrix_of_round}
 use Rattle.office_moves.specs.Moves.{next_seeks}
 use Rattle.office_moves.specs.Promise.{IsJust, KeepsItsWord, standing_then}
 use Rattle.history_laws.specs.Course.{IsCourse, left_then, seeks_then}
+use Rattle.history_laws.proofs.Alone.{made_alone}
 use Rattle.history_laws.proofs.Entering.{entrants}
 use Rattle.history_laws.proofs.Fits.{full_seekers, held_before, held_over, seekers_then, seeks_within}
 use Rattle.history_laws.proofs.Falls.{holder_seated, holds_on}
 
 -- every round is just
-just : (facts : SeasonFacts) (state : State) (before : ℕ) (round : Round) → IsSound facts → ProgrammesChooseWell → IsCourse facts state → slice_get state.rounds before ≡ Some round
-    → IsJust facts (matrix_of_round facts state (suc before)) round
-just facts state before round sound well course is =
+just : (facts : SeasonFacts) (state : State) (before : ℕ) (round : Round) → IsSound facts → ProgrammesChooseWell → ProgrammesGrow → StepsChooseWell → IsCourse facts state
+    → slice_get state.rounds before ≡ Some round → IsJust facts (matrix_of_round facts state (suc before)) round
+just facts state before round sound well grow steps course is =
     let table = matrix_of_round facts state (suc before) in
-    let made = course.made before round is in
+    let made = made_alone facts state sound well grow steps course before round is in
     let of_table = entrants facts table sound (course.programmes (suc before)) in
     let justified = fair_justified (rule_of facts.version nobody table) (MayApplyIn table) (length table.programmes) (seekers_then facts state before) round.seats
     (market table facts.people (lists_in_order facts) (seeks_then facts state before) (course.seats (suc before)) of_table) (well facts.version nobody table (course.seats (suc before))) made.best.fair in
@@ -74,9 +75,9 @@ pub entries_full : (facts : SeasonFacts) (state : State) (before : ℕ) (round :
 entries_full facts state before round sound course is = (course.made before round is).best.fair.allocation.full ∙ full_seekers facts state before sound
 
 -- The office keeps its word.
-pub keeps_its_word : (facts : SeasonFacts) (state : State) → IsSound facts → ProgrammesChooseWell → ProgrammesGrow → IsCourse facts state → KeepsItsWord facts state
-keeps_its_word facts state sound well grow course = record {
-  rounds = λ before round is. just facts state before round sound well course is;
+pub keeps_its_word : (facts : SeasonFacts) (state : State) → IsSound facts → ProgrammesChooseWell → ProgrammesGrow → StepsChooseWell → IsCourse facts state → KeepsItsWord facts state
+keeps_its_word facts state sound well grow steps course = record {
+  rounds = λ before round is. just facts state before round sound well grow steps course is;
   sought = λ before round is. ((course.made before round is).number, (course.made before round is).sought);
   nobody_falls = λ window id less. holds_on facts state window id sound well grow course less;
   finals = course.finals;

@@ -6,9 +6,10 @@ use Rattle.seat_matrix.specs.Matrix.{AreSeats, SeatTable, seats_in}
 use Rattle.programme_lists.specs.declared.programme.Programme.{Programme}
 use Rattle.list_cutoffs.specs.Cutoffs.{AreKeptListed}
 use Rattle.seeks.specs.declared.seek.Seek.{Seek}
+use Rattle.kept_seats.specs.Kept.{Guarantees}
 use Rattle.rounds.specs.Round.{IsRound}
 use Rattle.rounds.specs.declared.round.Round.{Round}
-use Rattle.rounds.specs.Rule.{IsRaised, nobody}
+use Rattle.rounds.specs.Rule.{IsRaised}
 use Rattle.office_moves.specs.Facts.{IsSound, SeasonFacts, lists_in_order}
 use Rattle.office_moves.specs.State.{State, opening, round_at}
 use Rattle.office_moves.specs.Raised.{matrix_at, matrix_of_round}
@@ -62,11 +63,11 @@ pub record SeatsRise (facts : SeasonFacts) (state : State) : Type 0 where
 abbrev pub SeatsOnlyRise : SeasonFacts → Type 0
 SeatsOnlyRise facts = IsSound facts → (entries : List Entry) (state : State) → Reaches facts opening entries state → SeatsRise facts state
 
--- Two rounds of a season by one matrix, on one seek for each of the people, are one.
+-- Two rounds of a season by one matrix, on one seek for each of the people and one set of guarantees, are one.
 abbrev pub RoundsAreOne : Type 0
-RoundsAreOne = (facts : SeasonFacts) (table : SeatTable) (n : ℕ) (seeks : List Seek) (first second : Round) → IsSound facts → AreSeats table
-    → table.programmes ≡ facts.matrix.programmes → IsRound facts.version nobody table facts.people (lists_in_order facts) n seeks first
-    → IsRound facts.version nobody table facts.people (lists_in_order facts) n seeks second → first ≡ second
+RoundsAreOne = (facts : SeasonFacts) (guaranteed : Guarantees) (table : SeatTable) (n : ℕ) (seeks : List Seek) (first second : Round) → IsSound facts → AreSeats table
+    → table.programmes ≡ facts.matrix.programmes → IsRound facts.version guaranteed table facts.people (lists_in_order facts) n seeks first
+    → IsRound facts.version guaranteed table facts.people (lists_in_order facts) n seeks second → first ≡ second
 
 -- A request after a history has one reply, and leads to one state.
 abbrev pub AnswersAreOne : Type 0

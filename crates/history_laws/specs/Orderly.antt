@@ -2,16 +2,17 @@
 use Rattle.std.specs.Prelude.{◌≡◌, ◌<◌, ◌≤◌, ◌+◌, ℕ, suc, true, false, List, [], ◌∷◌, Some, None, IsSome, length, slice_get}
 use Rattle.kept_rows.specs.declared.rows.AnswerRow.{AnswerRow}
 use Rattle.seat_matrix.specs.Matrix.{AreSeats}
-use Rattle.rounds.specs.Rule.{AreSeeks}
+use Rattle.rounds.specs.Round.{IsRound}
+use Rattle.rounds.specs.Rule.{AreSeeks, nobody}
 use Rattle.rounds.specs.declared.round.Round.{Round}
 use Rattle.round_options.specs.Options.{holds}
 use Rattle.office_moves.specs.Facts.{SeasonFacts, lists_in_order}
 use Rattle.office_moves.specs.State.{State, in_window, last_seat, rows_of}
 use Rattle.office_moves.specs.Judge.{is_gone}
 use Rattle.office_moves.specs.Raised.{matrix_at, matrix_of_round}
-use Rattle.office_moves.specs.Moves.{next_seeks}
+use Rattle.office_moves.specs.Moves.{IsNextRound, next_seeks}
 use Rattle.office_moves.specs.Promise.{KeepsItsWord, standing_then}
-use Rattle.history_laws.specs.Course.{IsCourse}
+use Rattle.history_laws.specs.Course.{IsCourse, seeks_then}
 
 -- The turns of these rows count up after this one.
 abbrev pub AreTurnsAfter : ℕ → List AnswerRow → Type 0
@@ -29,6 +30,11 @@ pub record AreAnswers (facts : SeasonFacts) (state : State) : Type 0 where
 pub record IsOrderly (facts : SeasonFacts) (state : State) : Type 0 where
   pub course : IsCourse facts state
   pub word : KeepsItsWord facts state
+  -- guarantees change nothing: each round, and the next one, is the one in which nobody is guaranteed a seat
+  pub alone : (before : ℕ) (round : Round) → slice_get state.rounds before ≡ Some round
+      → IsRound facts.version nobody (matrix_of_round facts state (suc before)) facts.people (lists_in_order facts) (before + 1) (seeks_then facts state before) round
+  pub next_alone : state.now < facts.rounds → (round : Round) → IsNextRound facts state round
+      → IsRound facts.version nobody (matrix_at facts state) facts.people (lists_in_order facts) (state.now + 1) (next_seeks facts state) round
   pub answers : AreAnswers facts state
   -- the windows
   pub now : state.now ≤ facts.rounds + 1

@@ -53,6 +53,7 @@ pub fn keeps_its_word()
 {
     round_laws::laws::choose_well();
     round_laws::laws::grow();
+    round_laws::laws::steps_choose_well();
 }
 
 /// In a state that a history reaches all is in order: the office keeps its word, and its windows, turns, seats and raises fit together.
@@ -66,9 +67,10 @@ pub fn orderly()
     seats_only_rise();
     round_laws::laws::choose_well();
     round_laws::laws::grow();
+    round_laws::laws::steps_choose_well();
 }
 
-/// Two rounds of a season by one matrix, on one seek for each of the people, are one.
+/// Two rounds of a season by one matrix, on one seek for each of the people and one set of guarantees, are one.
 pub fn one_round()
     ensures { RoundsAreOne }
 {

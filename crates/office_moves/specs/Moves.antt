@@ -18,7 +18,8 @@ use Rattle.list_cutoffs.specs.Cutoffs.{AreCutoffsIn}
 use Rattle.list_cutoffs.specs.declared.cutoffs.StepCutoff.{StepCutoff}
 use Rattle.seeks.specs.declared.seek.Seek.{Seek}
 use Rattle.rounds.specs.Round.{IsRound, seated}
-use Rattle.rounds.specs.Rule.{nobody}
+use Rattle.kept_seats.specs.Kept.{Guarantees}
+use Rattle.rounds.specs.Rule.{guarantees}
 use Rattle.rounds.specs.declared.round.Round.{Round}
 use Rattle.round_options.specs.Options.{holds, seek_after}
 use Rattle.round_options.specs.declared.standing.Standing.{Standing}
@@ -46,16 +47,24 @@ next_seek facts state id =
 abbrev pub next_seeks : SeasonFacts → State → List Seek
 next_seeks facts state = map (λ person. next_seek facts state person.id.0) facts.people
 
--- The round may follow: it is the one after those published, by the raised matrix, on what everybody seeks next.
-abbrev pub IsNextRound : SeasonFacts → State → Round → Type 0
-IsNextRound facts state round =
-    IsRound facts.version nobody (matrix_at facts state) facts.people (lists_in_order facts) (state.now + 1) (next_seeks facts state) round
-
--- ---- the final rows
-
--- the seat with which a candidate ends: the last one, where the standing is freeze, float or slide
+-- the seat that a candidate keeps at the next cut, and with which the candidate ends at the last one: the last seat, where the standing is freeze, float or slide
 abbrev pub final_seat : SeasonFacts → State → ℕ → Option Seat
 final_seat facts state id = if holds (standing_at facts (view_of state id) id state.now) then last_seat facts state.rounds id else None
+
+-- the programmes of the seats that are kept, along the people
+abbrev pub kept_programmes : SeasonFacts → State → List (Option ProgId)
+kept_programmes facts state = map (λ person. option_map (λ seat. seat.prog) (final_seat facts state person.id.0)) facts.people
+
+-- who keeps a seat is guaranteed one of its programme in the next round
+abbrev pub guaranteed_next : SeasonFacts → State → Guarantees
+guaranteed_next facts state = guarantees facts.people (kept_programmes facts state)
+
+-- The round may follow: it is the one after those published, by the raised matrix, on what everybody seeks next, with a seat guaranteed to whoever keeps one.
+abbrev pub IsNextRound : SeasonFacts → State → Round → Type 0
+IsNextRound facts state round =
+    IsRound facts.version (guaranteed_next facts state) (matrix_at facts state) facts.people (lists_in_order facts) (state.now + 1) (next_seeks facts state) round
+
+-- ---- the final rows
 
 -- the row of a seat before others
 abbrev pub row_before : ℕ → CandId → Option Seat → List AllotRow → List AllotRow

@@ -48,9 +48,13 @@ HoldsOn facts state window id = holds (standing_then facts state window id) ≡ 
     → (old new : Seat) × (seat_in facts state.rounds window id ≡ Some old) × (seat_in facts state.rounds (suc window) id ≡ Some new)
     × IsNoWorse facts (standing_then facts state window id) id old new
 
--- the seat of the last round, if the standing at the last cut was freeze, float or slide; otherwise none
+-- the seat that a candidate kept at the cut of a window: that of the round before it, if the standing then was freeze, float or slide; otherwise none
+abbrev pub kept_then : SeasonFacts → State → ℕ → ℕ → Option Seat
+kept_then facts state window id = if holds (standing_then facts state window id) then seat_in facts state.rounds window id else None
+
+-- the seat that was kept at the last cut
 abbrev pub kept_to_the_end : SeasonFacts → State → ℕ → Option Seat
-kept_to_the_end facts state id = if holds (standing_then facts state facts.rounds id) then seat_in facts state.rounds facts.rounds id else None
+kept_to_the_end facts state id = kept_then facts state facts.rounds id
 
 -- what a candidate seeks at the cut of a window, by the standing then and the place of the seat of the round before it
 abbrev pub sought_then : SeasonFacts → State → ℕ → ℕ → Seek

@@ -15,13 +15,13 @@ use Rattle.round_options.specs.declared.standing.Standing.{Standing}
 use Rattle.office_moves.specs.Facts.{IsSound, SeasonFacts, lists_in_order}
 use Rattle.office_moves.specs.State.{State, last_seat, round_at, seat_of}
 use Rattle.office_moves.specs.Raised.{matrix_at}
-use Rattle.office_moves.specs.Moves.{IsNextRound, allot_rows, final_rows, next_seeks}
+use Rattle.office_moves.specs.Moves.{IsNextRound, allot_rows, final_rows, kept_programmes, next_seeks}
 use Rattle.office_moves.specs.Promise.{standing_then}
 use Rattle.history_laws.specs.Orderly.{IsOrderly}
 use Rattle.cut_arrays.specs.NextSeeks.{AreSeated, seeks_after}
-use Rattle.cut_arrays.specs.Rows.{kept_seats, rows_of_seats}
+use Rattle.cut_arrays.specs.Rows.{kept_seats, programmes_of, rows_of_seats}
 use Rattle.cut_arrays.specs.WindowEnd.{seats_of, standings}
-use Rattle.cut_arrays.proofs.OfficeLinks.{AreRising, all_allotted, all_end, all_seek, all_stand, round_along}
+use Rattle.cut_arrays.proofs.OfficeLinks.{AreRising, all_allotted, all_end, all_guaranteed, all_seek, all_stand, round_along}
 use Rattle.proceedings.specs.Proceeding.{left_along, table_along}
 
 pub left_full : (facts : SeasonFacts) (state : State) (left : List Standing) → left ≡ left_along facts state → length left ≡ length facts.people
@@ -98,3 +98,10 @@ pub by_allotted : (facts : SeasonFacts) (state : State) (people : List Person) (
 by_allotted facts state people seats round is given sound next =
     ap (λ (ps : List Person). rows_of_seats round.number ps seats) is ∙ (ap (λ (z : List (Option Seat)). rows_of_seats round.number facts.people z) given
     ∙ all_allotted facts round sound.ranks.rising (next_full facts state round sound next))
+
+pub by_kept : (facts : SeasonFacts) (state : State) (left : List Standing) (table : List (List Choice)) (last : Option Round) → IsSound facts → IsOrderly facts state
+    → left ≡ left_along facts state → table ≡ table_along facts state state.now → last ≡ slice_get state.rounds (length state.rounds - 1)
+    → programmes_of (kept_seats (standings left table) (seats_of (length left) last)) ≡ kept_programmes facts state
+by_kept facts state left table last sound orderly so turns latest =
+    ap (λ (n : ℕ). programmes_of (kept_seats (standings left table) (seats_of n last))) (left_full facts state left so)
+    ∙ all_guaranteed facts state left table last sound.ranks.rising so turns (last_round state.rounds last latest) (seats_full facts state.rounds last orderly.entries latest)

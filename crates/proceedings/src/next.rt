@@ -1,14 +1,14 @@
 // What comes next: what everybody seeks, the rows of a round and the final ones, and the table of the next window.
 ghost use Rattle.std.specs.Prelude.{◌≡◌, IfOk, length};
 ghost use Rattle.office_moves.specs.Facts.{lists_in_order};
-ghost use Rattle.office_moves.specs.Moves.{IsNextRound, allot_rows, final_rows, next_seeks};
+ghost use Rattle.office_moves.specs.Moves.{IsNextRound, allot_rows, final_rows, kept_programmes, next_seeks};
 ghost use Rattle.answer_table.specs.Turns.{no_turns};
 ghost use Rattle.rounds.specs.Rule.{AreSeeks};
 
 use crate::book::Proceedings;
 use answer_table::AnswerTable;
 use kept_rows::AllotRows;
-use office_base::OutOfMemory;
+use office_base::{OutOfMemory, ProgId};
 use rounds::{Round, Seeks};
 use std::alloc::Global;
 
@@ -35,6 +35,35 @@ impl Proceedings {
         let rounds = self.season.rounds;
         let left = self.left.as_slice();
         cut_arrays::final_rows(alloc, people, rounds, left, table, self.rounds.last())
+    }
+
+    /// The programmes of the seats that are kept, by the turns of the open window.
+    fn kept_by(
+        &self,
+        alloc: Global,
+        table: &AnswerTable,
+    ) -> Result<Vec<Option<ProgId>>, OutOfMemory>
+        requires { table.now ≡ table_along self.now.season self.now.state self.now.state.now }
+        ensures { IfOk result (λ kept. kept.items
+            ≡ kept_programmes self.now.season self.now.state) }
+    {
+        let _people = self.season.register.people();
+        cut_arrays::kept_programmes(alloc, self.left.as_slice(), table, self.rounds.last())
+    }
+
+    /// For each of the people, in the order of the register, the programme of the seat that they keep at the next cut, and which is
+    /// guaranteed to them.
+    pub fn guaranteed(&self, alloc: Global) -> Result<Vec<Option<ProgId>>, OutOfMemory>
+        ensures { IfOk result (λ kept. kept.items
+            ≡ kept_programmes self.now.season self.now.state) }
+    {
+        match self.turns.get(usize::from(self.window)) {
+            Some(table) => self.kept_by(alloc, table),
+            None => {
+                let table = self.next_table(alloc)?;
+                self.kept_by(alloc, &table)
+            }
+        }
     }
 
     /// What everybody seeks in the next round, along the register.

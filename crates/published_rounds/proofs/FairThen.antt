@@ -20,16 +20,16 @@ use Rattle.office_moves.specs.Facts.{IsSound, SeasonFacts, lists_in_order}
 use Rattle.office_moves.specs.Promise.{all_sought_then}
 use Rattle.office_moves.specs.State.{State, seat_of}
 use Rattle.history_laws.proofs.Falls.{fit_all, next_market}
-use Rattle.history_laws.specs.Course.{IsCourse}
+use Rattle.history_laws.specs.Orderly.{IsOrderly}
 use Rattle.published_rounds.specs.Published.{IsThatOrEarlier, market_then, matrix_then, wanted_then}
-use Rattle.published_rounds.proofs.Places.{AreOrderly, course_of, in_round, made_then, may_enter, place_among}
+use Rattle.published_rounds.proofs.Places.{AreOrderly, order_of, in_round, made_then, may_enter, place_among}
 use Rattle.published_rounds.specs.Fair.{AreFairOver}
 use Rattle.published_rounds.specs.People.{IsDecidedFor, IsOpenFor, PublishedRoundsAreJustified}
 use Rattle.published_rounds.specs.Laws.{NobodyIsEnvied, SeatsAreWithin}
 use Rattle.published_rounds.specs.FairLaws.{FewNewHolders, FewNewlySeated, NoSeatIsWasted, NoVacancyFillsByItself, SeatsAreWithinWhereFair}
 use Rattle.published_rounds.specs.FairThen.{ClosingPlacesDecideThen, FewNewHoldersThen, FewNewlySeatedThen, IsDecidedThen, IsOpenThen, NoSeatIsWastedThen, NoVacancyFillsByItselfThen}
 
-module _ (facts : SeasonFacts) (state : State) (window : ℕ) (round : Round) (sound : IsSound facts) (course : IsCourse facts state) (is : slice_get state.rounds window ≡ Some round) where
+module _ (facts : SeasonFacts) (state : State) (window : ℕ) (round : Round) (sound : IsSound facts) (order : IsOrderly facts state) (is : slice_get state.rounds window ≡ Some round) where
   abbrev table : SeatTable
   table = matrix_then facts state window
 
@@ -39,13 +39,13 @@ module _ (facts : SeasonFacts) (state : State) (window : ℕ) (round : Round) (s
   -- the seats of the round are fair over its matrix
   pub fair_over : AreFairOver facts.version table seekers round.seats
   fair_over = record {
-    are_seats = course.seats (suc window);
-    market = market table facts.people (lists_in_order facts) (all_sought_then facts state window) (course.seats (suc window)) (may_enter facts state window sound course);
-    fair = (made_then facts state window round course is).best.fair;
+    are_seats = order.course.seats (suc window);
+    market = market table facts.people (lists_in_order facts) (all_sought_then facts state window) (order.course.seats (suc window)) (may_enter facts state window sound order);
+    fair = (made_then facts state window round order is).best.fair;
   }
 
   pub same_list : (p : ℕ) → list_in table p ≡ list_in facts.matrix p
-  same_list p = ap (λ programmes. unwrap_or (option_map (λ (held : List ℕ × Home). held.1.list) (slice_get programmes p)) first_list) (course.programmes (suc window))
+  same_list p = ap (λ programmes. unwrap_or (option_map (λ (held : List ℕ × Home). held.1.list) (slice_get programmes p)) first_list) (order.course.programmes (suc window))
 
   abbrev got : ℕ → Option Seat
   got = seat_of facts (Some round)
@@ -86,24 +86,24 @@ module _ (facts : SeasonFacts) (state : State) (window : ℕ) (round : Round) (s
 
 pub nobody_is_envied : AreOrderly → ((facts : SeasonFacts) → PublishedRoundsAreJustified facts) → (facts : SeasonFacts) → NobodyIsEnvied facts
 nobody_is_envied orderly justified facts entries state window round better worse seat step published here here' has under wanted ahead may holds =
-    let lists = sym (same_list facts state window round published.sound (course_of orderly facts entries state window round published) published.there seat.prog.0) in
+    let lists = sym (same_list facts state window round published.sound (order_of orderly facts entries state window round published) published.there seat.prog.0) in
     (justified facts entries state window round published).nobody_is_envied better worse seat step here here' has under wanted
     (subst (λ (l : ListId). IsBetter l better worse) lists ahead) (subst (λ (l : ListId). MayStandFor l step better) lists may) holds
 
 pub seats_are_within : AreOrderly → SeatsAreWithinWhereFair → (facts : SeasonFacts) → SeatsAreWithin facts
 seats_are_within orderly within facts entries state window round prog published below =
-    let course = course_of orderly facts entries state window round published in
-    let same = ap length (course.programmes (suc window)) in
-    within facts.version (matrix_then facts state window) (market_then facts state window) round.seats prog (fair_over facts state window round published.sound course published.there)
+    let order = order_of orderly facts entries state window round published in
+    let same = ap length (order.course.programmes (suc window)) in
+    within facts.version (matrix_then facts state window) (market_then facts state window) round.seats prog (fair_over facts state window round published.sound order published.there)
     (omega (arith, below, same))
 
 pub no_seat_is_wasted_then : AreOrderly → NoSeatIsWasted → (facts : SeasonFacts) → NoSeatIsWastedThen facts
 no_seat_is_wasted_then orderly none facts entries state window round person prog step published left among wanted may =
-    let course = course_of orderly facts entries state window round published in
+    let order = order_of orderly facts entries state window round published in
     let at = place_among facts.people person among in
-    let mine = in_round facts state window at.0 round person published.sound course published.there at.1 in
-    let over = fair_over facts state window round published.sound course published.there in
-    let lists = same_list facts state window round published.sound course published.there prog in
+    let mine = in_round facts state window at.0 round person published.sound order published.there at.1 in
+    let over = fair_over facts state window round published.sound order published.there in
+    let lists = same_list facts state window round published.sound order published.there prog in
     let got = none facts.version (matrix_then facts state window) (market_then facts state window) round.seats prog at.0 step mine.s mine.seat over left mine.there mine.has
     (subst (λ (l : List ProgId). wants prog l ≡ true) (sym mine.list_is) wanted)
     (subst (λ (h : Person). MayStandFor (list_in (matrix_then facts state window) prog) step h) (sym mine.person_is)
@@ -113,7 +113,7 @@ no_seat_is_wasted_then orderly none facts entries state window round person prog
 
 pub closing_places_decide_then : AreOrderly → ((facts : SeasonFacts) → PublishedRoundsAreJustified facts) → (facts : SeasonFacts) → ClosingPlacesDecideThen facts
 closing_places_decide_then orderly justified facts entries state window round person published among =
-    decided_then facts state window round published.sound (course_of orderly facts entries state window round published) published.there person
+    decided_then facts state window round published.sound (order_of orderly facts entries state window round published) published.there person
     ((justified facts entries state window round published).closing_places_decide person among)
 
 -- two rounds that follow each other
@@ -124,36 +124,36 @@ record FollowEachOther (facts : SeasonFacts) (state : State) (window : ℕ) (rou
   pub below : prog < length (matrix_then facts state window).programmes
   pub next_below : prog < length (matrix_then facts state (suc window)).programmes
 
-follow : (facts : SeasonFacts) (state : State) (window : ℕ) (round next : Round) (prog : ℕ) → ProgrammesChooseWell → ProgrammesGrow → IsSound facts → IsCourse facts state
+follow : (facts : SeasonFacts) (state : State) (window : ℕ) (round next : Round) (prog : ℕ) → ProgrammesChooseWell → ProgrammesGrow → IsSound facts → IsOrderly facts state
     → slice_get state.rounds window ≡ Some round → slice_get state.rounds (suc window) ≡ Some next → prog < length facts.matrix.programmes → FollowEachOther facts state window round next prog
-follow facts state window round next prog well grows sound course is again below =
-    let fit = fit_all facts state window sound well grows course (slice_get_within state.rounds window round is) in
-    let count = ap (λ l. length l) (course.programmes (suc window)) in
-    let count' = ap (λ l. length l) (course.programmes (suc (suc window))) in
+follow facts state window round next prog well grows sound order is again below =
+    let fit = fit_all facts state window sound well grows order.course (slice_get_within state.rounds window round is) in
+    let count = ap (λ l. length l) (order.course.programmes (suc window)) in
+    let count' = ap (λ l. length l) (order.course.programmes (suc (suc window))) in
     record {
-      over = fair_over facts state window round sound course is;
-      next_over = fair_over facts state (suc window) next sound course again;
-      narrows = next_market facts state window round sound course fit is;
+      over = fair_over facts state window round sound order is;
+      next_over = fair_over facts state (suc window) next sound order again;
+      narrows = next_market facts state window round sound order.course fit is;
       below = omega (arith, below, count);
       next_below = omega (arith, below, count');
     }
 
 pub no_vacancy_fills_by_itself_then : AreOrderly → ProgrammesChooseWell → ProgrammesGrow → NoVacancyFillsByItself → (facts : SeasonFacts) → NoVacancyFillsByItselfThen facts
 no_vacancy_fills_by_itself_then orderly well grows none facts entries state window round next prog published again below same =
-    let f = follow facts state window round next prog well grows published.sound (course_of orderly facts entries state window round published) published.there again below in
+    let f = follow facts state window round next prog well grows published.sound (order_of orderly facts entries state window round published) published.there again below in
     none facts.version (matrix_then facts state window) (matrix_then facts state (suc window)) (market_then facts state window) (market_then facts state (suc window)) round.seats next.seats
     prog f.over f.next_over f.narrows f.below f.next_below same
 
 pub few_new_holders_then : AreOrderly → ProgrammesChooseWell → ProgrammesGrow → FewNewHolders → (facts : SeasonFacts) → FewNewHoldersThen facts
 few_new_holders_then orderly well grows few facts entries state window round next prog published again below =
-    let course = course_of orderly facts entries state window round published in
-    let f = follow facts state window round next prog well grows published.sound course published.there again below in
+    let order = order_of orderly facts entries state window round published in
+    let f = follow facts state window round next prog well grows published.sound order published.there again below in
     few facts.version (matrix_then facts state window) (matrix_then facts state (suc window)) (market_then facts state window) (market_then facts state (suc window)) round.seats next.seats
-    prog f.over f.next_over f.narrows f.below f.next_below ((course.raised (suc window)).seats prog)
+    prog f.over f.next_over f.narrows f.below f.next_below ((order.course.raised (suc window)).seats prog)
 
 pub few_newly_seated_then : AreOrderly → ProgrammesChooseWell → ProgrammesGrow → FewNewlySeated → (facts : SeasonFacts) → FewNewlySeatedThen facts
 few_newly_seated_then orderly well grows few facts entries state window round next prog published again below =
-    let course = course_of orderly facts entries state window round published in
-    let f = follow facts state window round next prog well grows published.sound course published.there again below in
+    let order = order_of orderly facts entries state window round published in
+    let f = follow facts state window round next prog well grows published.sound order published.there again below in
     few facts.version (matrix_then facts state window) (matrix_then facts state (suc window)) (market_then facts state window) (market_then facts state (suc window)) round.seats next.seats
-    prog f.over f.next_over f.narrows f.below f.next_below ((course.raised (suc window)).seats prog)
+    prog f.over f.next_over f.narrows f.below f.next_below ((order.course.raised (suc window)).seats prog)

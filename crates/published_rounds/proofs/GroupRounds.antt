@@ -14,11 +14,11 @@ use Rattle.rounds.proofs.Entrants.{entered, length_seekers, market}
 use Rattle.office_moves.specs.Facts.{IsSound, SeasonFacts, lists_in_order}
 use Rattle.office_moves.specs.Promise.{all_sought_then}
 use Rattle.office_moves.specs.State.{State, seat_of}
-use Rattle.history_laws.specs.Course.{IsCourse}
+use Rattle.history_laws.specs.Orderly.{IsOrderly}
 use Rattle.history_laws.proofs.Entering.{lists_full}
 use Rattle.history_laws.proofs.Fits.{enters, full_seeks}
 use Rattle.published_rounds.specs.Published.{market_then, matrix_then, wanted_then}
-use Rattle.published_rounds.proofs.Places.{AreOrderly, course_of, in_round, made_then}
+use Rattle.published_rounds.proofs.Places.{AreOrderly, order_of, in_round, made_then}
 use Rattle.published_rounds.proofs.FairThen.{fair_over}
 use Rattle.published_rounds.specs.Groups.{AllGain, TellTogether}
 use Rattle.published_rounds.specs.GroupLaws.{AllWouldGain, AreOtherwiseTogether, NoGroupGainsInARound, NoGroupWouldGain}
@@ -50,11 +50,11 @@ tell_together table people lists told seeks sought group full full' h = record {
       second.leaves ∙ (ap (λ l. seek_leaves table second.seek l) list ∙ (ap (λ q. seek_leaves table q first.list) seek ∙ sym first.leaves));
 }
 
-all_gain : (facts : SeasonFacts) (state : State) (window : ℕ) (round : Round) (group : ℕ → Bool) (others : List (Option Seat)) → IsSound facts → IsCourse facts state
+all_gain : (facts : SeasonFacts) (state : State) (window : ℕ) (round : Round) (group : ℕ → Bool) (others : List (Option Seat)) → IsSound facts → IsOrderly facts state
     → slice_get state.rounds window ≡ Some round → AllWouldGain facts state window round group others → AllGain group (market_then facts state window) round.seats others
-all_gain facts state window round group others sound course is gain j s seat other within there has has' =
+all_gain facts state window round group others sound order is gain j s seat other within there has has' =
     let at = (enters facts state window j s sound there).person_at in
-    let mine = in_round facts state window j round s.person sound course is at in
+    let mine = in_round facts state window j round s.person sound order is at in
     let one = mine.there in
     let two = mine.has in
     let same : mine.s ≡ s = cc in
@@ -67,13 +67,13 @@ all_gain facts state window round group others sound course is gain j s seat oth
 
 pub no_group_would_gain : AreOrderly → NoGroupGainsInARound → (facts : SeasonFacts) → NoGroupWouldGain facts
 no_group_would_gain orderly none facts entries state window round group i person told sought others published at within enter otherwise fair gain =
-    let course = course_of orderly facts entries state window round published in
+    let order = order_of orderly facts entries state window round published in
     let sound = published.sound in
     let table = matrix_then facts state window in
-    let ok = course.seats (suc window) in
-    let mine = in_round facts state window i round person sound course published.there at in
+    let ok = order.course.seats (suc window) in
+    let mine = in_round facts state window i round person sound order published.there at in
     let here' = market table facts.people told sought ok enter in
-    none facts.version table ok (length table.programmes) group (market_then facts state window) (seekers_of table facts.people told sought) round.seats others i mine.s (fair_over facts state window round sound course published.there).market here'
+    none facts.version table ok (length table.programmes) group (market_then facts state window) (seekers_of table facts.people told sought) round.seats others i mine.s (fair_over facts state window round sound order published.there).market here'
     (tell_together table facts.people (lists_in_order facts) told (all_sought_then facts state window) sought group (lists_full facts sound) (full_seeks facts state window sound) otherwise)
-    (made_then facts state window round course published.there).best fair within mine.there
-    (all_gain facts state window round group others sound course published.there gain)
+    (made_then facts state window round order published.there).best fair within mine.there
+    (all_gain facts state window round group others sound order published.there gain)

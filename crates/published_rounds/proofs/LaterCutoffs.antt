@@ -23,16 +23,16 @@ use Rattle.rounds.specs.Rule.{MayApplyIn, ProgrammesChooseWell, ProgrammesGrow, 
 use Rattle.rounds.specs.declared.round.Round.{Round}
 use Rattle.office_moves.specs.Facts.{IsSound, SeasonFacts}
 use Rattle.office_moves.specs.State.{State}
-use Rattle.history_laws.specs.Course.{IsCourse}
+use Rattle.history_laws.specs.Orderly.{IsOrderly}
 use Rattle.history_laws.proofs.Falls.{fit_all, next_market}
 use Rattle.published_rounds.specs.Published.{market_then, matrix_then}
-use Rattle.published_rounds.proofs.Places.{AreOrderly, course_of, made_then}
+use Rattle.published_rounds.proofs.Places.{AreOrderly, order_of, made_then}
 use Rattle.published_rounds.specs.CutoffLaws.{LaterCutoffsAreWider}
 use Rattle.published_rounds.proofs.FairThen.{fair_over}
 use Rattle.published_rounds.proofs.OutsideCutoffs.{shown_by, told}
 
 module _ (orderly : AreOrderly) (well : ProgrammesChooseWell) (grow : ProgrammesGrow) (still_meets : WhoMeetsStillMeets) (one : OneProgrammeChoice) (facts : SeasonFacts) (state : State) (sound : IsSound facts)
-    (course : IsCourse facts state) (prog : ℕ) (person : Person) (small : IsTraitSet person.traits) (kind : StepKind) where
+    (order : IsOrderly facts state) (prog : ℕ) (person : Person) (small : IsTraitSet person.traits) (kind : StepKind) where
   abbrev table : ℕ → SeatTable
   table window = matrix_then facts state window
 
@@ -50,19 +50,19 @@ module _ (orderly : AreOrderly) (well : ProgrammesChooseWell) (grow : Programmes
 
   may : (window : ℕ) (round : Round) → slice_get state.rounds window ≡ Some round → prog < length (table window).programmes → MayApplyIn (table window) prog (people window round)
   may window round is below =
-      let fair = (made_then facts state window round course is).best.fair in
+      let fair = (made_then facts state window round order is).best.fair in
       applicants_may (rule_of facts.version nobody (table window)) (MayApplyIn (table window)) (length (table window).programmes) prog (market_then facts state window) round.seats
-      (fair_over facts state window round sound course is).market (well facts.version nobody (table window) (course.seats (suc window))) below fair.allocation.full
+      (fair_over facts state window round sound order is).market (well facts.version nobody (table window) (order.course.seats (suc window))) below fair.allocation.full
 
   same_programmes : (window : ℕ) → length (table (suc window)).programmes ≡ length (table window).programmes
-  same_programmes window = ap length (course.raised (suc window)).programmes
+  same_programmes window = ap length (order.course.raised (suc window)).programmes
 
   -- who applies in the next round applied in this one
   fewer : (window : ℕ) (round next : Round) → slice_get state.rounds window ≡ Some round → slice_get state.rounds (suc window) ≡ Some next → AreAmong (people (suc window) next) (people window round)
   fewer window round next is next_is =
       let less = slice_get_within state.rounds window round is in
-      let narrows = next_market facts state window round sound course (fit_all facts state window sound well grow course less) is in
-      let full = (made_then facts state window round course is).best.fair.allocation.full in
+      let narrows = next_market facts state window round sound order.course (fit_all facts state window sound well grow order.course less) is in
+      let full = (made_then facts state window round order is).best.fair.allocation.full in
       are_among (people (suc window) next) (people window round) (λ other here.
       (let found = of_those (λ s seat. applies prog s.list seat) (market_then facts state (suc window)) next.seats other here in
       let inside = slice_get_within (market_then facts state (suc window)) found.place found.s found.there in
@@ -77,7 +77,7 @@ module _ (orderly : AreOrderly) (well : ProgrammesChooseWell) (grow : Programmes
   would_still : (window : ℕ) → prog < length (table window).programmes → Would window → suc window < length state.rounds → Would (suc window)
   would_still window below would less =
       let next = there_is state.rounds (suc window) less in
-      let made = made_then facts state (suc window) next.0 course next.1 in
+      let made = made_then facts state (suc window) next.0 order next.1 in
       let size = same_programmes window in
       let below' : prog < length (table (suc window)).programmes = omega (arith, below, size) in
       let programme = there_is next.0.programmes prog (let count = made.count in omega (arith, below', count)) in
@@ -87,9 +87,9 @@ module _ (orderly : AreOrderly) (well : ProgrammesChooseWell) (grow : Programmes
       let part = fewer window would.round next.0 would.is next.1 in
       let result = still_meets facts.version (seats_in (table window) prog) (seats_in (table (suc window)) prog) (people window would.round) (people (suc window) next.0) would.admissions shown.0 person kind
       (record {
-        are_seats = (course.seats (suc window)).sound prog below;
-        more_are_seats = (course.seats (suc (suc window))).sound prog below';
-        more_seats = (course.raised (suc window)).seats prog;
+        are_seats = (order.course.seats (suc window)).sound prog below;
+        more_are_seats = (order.course.seats (suc (suc window))).sound prog below';
+        more_seats = (order.course.raised (suc window)).seats prog;
         distinct = second.distinct;
         part = part;
         choice = would.choice;
@@ -114,26 +114,26 @@ module _ (orderly : AreOrderly) (well : ProgrammesChooseWell) (grow : Programmes
 pub later_cutoffs_are_wider : AreOrderly → ProgrammesChooseWell → ProgrammesGrow → WhoMeetsStillMeets → LinesTellCutoffs → OneProgrammeChoice → (facts : SeasonFacts) → LaterCutoffsAreWider facts
 later_cutoffs_are_wider orderly well grow still_meets tell one facts entries state window next round later cutoffs others prog programme person kind published published' most are are' there small within =
     let sound = published.sound in
-    let course = course_of orderly facts entries state window round published in
-    let shown = shown_by well facts state window round sound course published.there prog programme there in
-    let made' = made_then facts state next later course published'.there in
-    let size = ap length (course.programmes (suc window)) in
-    let size' = ap length (course.programmes (suc next)) in
+    let order = order_of orderly facts entries state window round published in
+    let shown = shown_by well facts state window round sound order published.there prog programme there in
+    let made' = made_then facts state next later order published'.there in
+    let size = ap length (order.course.programmes (suc window)) in
+    let size' = ap length (order.course.programmes (suc next)) in
     let below = shown.below in
     let programme' = there_is later.programmes prog (let count = made'.count in omega (arith, below, count, size, size')) in
-    let shown' = shown_by well facts state next later sound course published'.there prog programme'.0 programme'.1 in
-    let meets = (told well facts state window round sound course published.there tell prog programme shown (cutoffs prog) person kind small (are prog programme there)).1 within in
-    let would : Would orderly well grow still_meets one facts state sound course prog person small kind window =
+    let shown' = shown_by well facts state next later sound order published'.there prog programme'.0 programme'.1 in
+    let meets = (told well facts state window round sound order published.there tell prog programme shown (cutoffs prog) person kind small (are prog programme there)).1 within in
+    let would : Would orderly well grow still_meets one facts state sound order prog person small kind window =
     record { round = round; is = published.there; admissions = shown.admissions; choice = shown.choice; meets = meets } in
     let last = slice_get_within state.rounds next later published'.there in
-    let reached = would_later orderly well grow still_meets one facts state sound course prog person small kind window (next - window) below would (omega (arith, most, last)) in
-    let then : Would orderly well grow still_meets one facts state sound course prog person small kind next =
-    subst (Would orderly well grow still_meets one facts state sound course prog person small kind) (omega (arith, most)) reached in
+    let reached = would_later orderly well grow still_meets one facts state sound order prog person small kind window (next - window) below would (omega (arith, most, last)) in
+    let then : Would orderly well grow still_meets one facts state sound order prog person small kind next =
+    subst (Would orderly well grow still_meets one facts state sound order prog person small kind) (omega (arith, most)) reached in
     let same : then.round ≡ later = (let a = then.is in let b = published'.there in cc) in
     let people' = applicants prog (market_then facts state next) later.seats in
     let its : ChoosesFrom facts.version (seats_in (matrix_then facts state next) prog) people' then.admissions =
     subst (λ (r : Round). ChoosesFrom facts.version (seats_in (matrix_then facts state next) prog) (applicants prog (market_then facts state next) r.seats) then.admissions) same then.choice in
     let equal : then.admissions ≡ shown'.admissions =
-    one facts.version (seats_in (matrix_then facts state next) prog) people' then.admissions shown'.admissions ((course.seats (suc next)).sound prog shown'.below) shown'.may its shown'.choice in
-    (told well facts state next later sound course published'.there tell prog programme'.0 shown' (others prog) person kind small (are' prog programme'.0 programme'.1)).0
+    one facts.version (seats_in (matrix_then facts state next) prog) people' then.admissions shown'.admissions ((order.course.seats (suc next)).sound prog shown'.below) shown'.may its shown'.choice in
+    (told well facts state next later sound order published'.there tell prog programme'.0 shown' (others prog) person kind small (are' prog programme'.0 programme'.1)).0
     (subst (λ (admissions : Admissions). MeetsCutoff facts.version (seats_in (matrix_then facts state next) prog) admissions person kind) equal then.meets)

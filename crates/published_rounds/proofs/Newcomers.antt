@@ -34,7 +34,7 @@ use Rattle.round_laws.proofs.Told.{tells_otherwise}
 use Rattle.office_moves.specs.Facts.{IsSound, SeasonFacts, lists_in_order}
 use Rattle.office_moves.specs.Promise.{all_sought_then}
 use Rattle.office_moves.specs.State.{State}
-use Rattle.history_laws.specs.Course.{IsCourse}
+use Rattle.history_laws.specs.Orderly.{IsOrderly}
 use Rattle.published_rounds.specs.Cutoffs.{AreCutoffsThen}
 use Rattle.published_rounds.specs.OutsideLaws.{AreFairOtherwise, OutsideIsOutside}
 use Rattle.published_rounds.specs.Fair.{AreFairOver}
@@ -42,7 +42,7 @@ use Rattle.published_rounds.specs.Published.{market_then, matrix_then, wanted_th
 use Rattle.published_rounds.proofs.FairThen.{fair_over}
 use Rattle.published_rounds.proofs.Improved.{alone_fair, alone_market}
 use Rattle.published_rounds.proofs.OutsideCutoffs.{shown_by, small_traits, told as lines_told}
-use Rattle.published_rounds.proofs.Places.{AreOrderly, InRound, course_of, in_round, made_then}
+use Rattle.published_rounds.proofs.Places.{AreOrderly, InRound, order_of, in_round, made_then}
 
 -- a seeker who wants nothing, and one who wants one programme alone, in the same place among the same others
 module _ (rule : Rule) (MayApply : ℕ → List Person → Type 0) (well : ChoosesWell rule MayApply) (count i : ℕ) (seekers alone : List Seeker) (seats : List (Option Seat)) (s : Seeker) (q : ProgId)
@@ -173,7 +173,7 @@ module _ (rule : Rule) (MayApply : ℕ → List Person → Type 0) (well : Choos
 -- ---- the theorem
 
 module _ (well : ProgrammesChooseWell) (no_fewer : ProgrammesAdmitNoFewer) (decide : CutoffsDecideAdmissions) (tell : LinesTellCutoffs) (facts : SeasonFacts) (state : State) (window i : ℕ) (round : Round)
-    (sound : IsSound facts) (course : IsCourse facts state) (is : slice_get state.rounds window ≡ Some round) (person : Person) (cutoffs : ℕ → List StepCutoff) (others : List (Option Seat)) (seat : Seat)
+    (sound : IsSound facts) (order : IsOrderly facts state) (is : slice_get state.rounds window ≡ Some round) (person : Person) (cutoffs : ℕ → List StepCutoff) (others : List (Option Seat)) (seat : Seat)
     (here : slice_get facts.people i ≡ Some person) (are : AreCutoffsThen facts round cutoffs) (nothing : wanted_then facts state window person.id.0 ≡ [])
     (outside : IsWithinLines (list_in facts.matrix seat.prog.0) person (cutoffs seat.prog.0) → ⊥) (otherwise : AreFairOtherwise facts state window i others) (has : slice_get others i ≡ Some (Some seat)) where
   abbrev table : SeatTable
@@ -189,10 +189,10 @@ module _ (well : ProgrammesChooseWell) (no_fewer : ProgrammesAdmitNoFewer) (deci
   told = seekers_of table facts.people otherwise.told otherwise.sought
 
   b : InRound facts state window i round person
-  b = in_round facts state window i round person sound course is here
+  b = in_round facts state window i round person sound order is here
 
   over : AreFairOver facts.version table seekers round.seats
-  over = fair_over facts state window round sound course is
+  over = fair_over facts state window round sound order is
 
   empty : b.s.list ≡ []
   empty = b.list_is ∙ nothing
@@ -206,16 +206,16 @@ module _ (well : ProgrammesChooseWell) (no_fewer : ProgrammesAdmitNoFewer) (deci
       unseated (Some own_seat) at own = let less : place_of [] own_seat.prog.0 < 0 = subst (λ (l : List ProgId). place_of l own_seat.prog.0 < length l) empty own in absurd (omega (arith, less))
 
   told_market : IsMarket (MayApplyIn table) (length table.programmes) told
-  told_market = market table facts.people otherwise.told otherwise.sought (course.seats (suc window)) otherwise.entrants
+  told_market = market table facts.people otherwise.told otherwise.sought (order.course.seats (suc window)) otherwise.entrants
 
   tells : TellsAnother i seekers told
   tells = tells_otherwise table facts.people (lists_in_order facts) otherwise.told (all_sought_then facts state window) otherwise.sought i otherwise.otherwise
 
   good : ChoosesWell rule (MayApplyIn table)
-  good = well facts.version nobody table (course.seats (suc window))
+  good = well facts.version nobody table (order.course.seats (suc window))
 
   fewer : AdmitsNoFewer rule (MayApplyIn table)
-  fewer = no_fewer facts.version nobody table (course.seats (suc window))
+  fewer = no_fewer facts.version nobody table (order.course.seats (suc window))
 
   -- the seekers when the newcomer wants the programme alone, and who applies to it then
   abbrev alone_here : List Seeker
@@ -248,7 +248,7 @@ module _ (well : ProgrammesChooseWell) (no_fewer : ProgrammesAdmitNoFewer) (deci
       subst (λ n. n < length table.programmes) read.2 (told_market.below i (place_of t.0.list seat.prog.0) t.0 read.0 t.1 read.1)
 
   inside : (programme : Programme) × (slice_get round.programmes seat.prog.0 ≡ Some programme)
-  inside = there_is round.programmes seat.prog.0 (let count = (made_then facts state window round course is).count in omega (arith, below, count))
+  inside = there_is round.programmes seat.prog.0 (let count = (made_then facts state window round order is).count in omega (arith, below, count))
 
   may_all : AreApplicants (list_in table seat.prog.0) all
   may_all = applicants_may rule (MayApplyIn table) (length table.programmes) seat.prog.0 alone_here round.seats alone_market_is good below full
@@ -257,10 +257,10 @@ module _ (well : ProgrammesChooseWell) (no_fewer : ProgrammesAdmitNoFewer) (deci
   refused : Refuses rule seat.prog.0 all b.s.person
   refused Kept keeps = absurd (false≢true keeps.guaranteed_there)
   refused (Under kind) admits =
-      let shown = shown_by well facts state window round sound course is seat.prog.0 inside.0 inside.1 in
+      let shown = shown_by well facts state window round sound order is seat.prog.0 inside.0 inside.1 in
       let joined : IsJoinedBy facts.version (seats_in table seat.prog.0) some all shown.admissions admits.0 b.s.person = record {
         both = record {
-          are_seats = (course.seats (suc window)).sound seat.prog.0 below;
+          are_seats = (order.course.seats (suc window)).sound seat.prog.0 below;
           distinct = shown.may.distinct;
           may = may_all;
           part = among_sublist some all the_part;
@@ -272,8 +272,8 @@ module _ (well : ProgrammesChooseWell) (no_fewer : ProgrammesAdmitNoFewer) (deci
       } in
       let met = (decide facts.version (seats_in table seat.prog.0) some all shown.admissions admits.0 b.s.person joined).0 (kind, admits.2) in
       let mine = subst (λ (p : Person). MeetsCutoff facts.version (seats_in table seat.prog.0) shown.admissions p met.0) b.person_is met.1 in
-      let small = small_traits facts state window person sound course (at_among facts.people i person here) in
-      let within = (lines_told well facts state window round sound course is tell seat.prog.0 inside.0 shown (cutoffs seat.prog.0) person met.0 small (are seat.prog.0 inside.0 inside.1)).0 mine in
+      let small = small_traits facts state window person sound order (at_among facts.people i person here) in
+      let within = (lines_told well facts state window round sound order is tell seat.prog.0 inside.0 shown (cutoffs seat.prog.0) person met.0 small (are seat.prog.0 inside.0 inside.1)).0 mine in
       outside (any_weaker (λ line. (line.step ≡ met.0) × IsWithinLine (list_in facts.matrix seat.prog.0) person line) (λ line. IsWithinLine (list_in facts.matrix seat.prog.0) person line) (λ line is. is.1) (cutoffs seat.prog.0) within)
 
   pub no_seat : ⊥
@@ -281,4 +281,4 @@ module _ (well : ProgrammesChooseWell) (no_fewer : ProgrammesAdmitNoFewer) (deci
 
 pub outside_is_outside : AreOrderly → ProgrammesChooseWell → ProgrammesAdmitNoFewer → CutoffsDecideAdmissions → LinesTellCutoffs → (facts : SeasonFacts) → OutsideIsOutside facts
 outside_is_outside orderly well fewer decide tell facts entries state window i round person cutoffs others seat published here are nothing outside otherwise has =
-    no_seat well fewer decide tell facts state window i round published.sound (course_of orderly facts entries state window round published) published.there person cutoffs others seat here are nothing outside otherwise has
+    no_seat well fewer decide tell facts state window i round published.sound (order_of orderly facts entries state window round published) published.there person cutoffs others seat here are nothing outside otherwise has

@@ -35,16 +35,16 @@ use Rattle.rounds.proofs.Nobody.{is_under}
 use Rattle.rounds.specs.declared.round.Round.{Round}
 use Rattle.office_moves.specs.Facts.{IsSound, SeasonFacts}
 use Rattle.office_moves.specs.State.{State, seat_of}
-use Rattle.history_laws.specs.Course.{IsCourse}
+use Rattle.history_laws.specs.Orderly.{IsOrderly}
 use Rattle.published_rounds.specs.Published.{market_then, matrix_then, wanted_then}
-use Rattle.published_rounds.proofs.Places.{AreOrderly, InRound, course_of, in_round, made_then, may_enter, place_among, seat_there_is}
+use Rattle.published_rounds.proofs.Places.{AreOrderly, InRound, order_of, in_round, made_then, may_enter, place_among, seat_there_is}
 use Rattle.published_rounds.specs.CutoffLaws.{RefusalsAreOutside, SeatsAreTheFirst, WithinCutoffsIsSeated}
 use Rattle.published_rounds.specs.Cutoffs.{AreCutoffsThen, IsSeatOfFirst}
 use Rattle.published_rounds.proofs.RaisedCutoffs.{more_cutoffs, raised_by}
 use Rattle.published_rounds.proofs.FairThen.{fair_over}
 use Rattle.published_rounds.proofs.FirstWithin.{first_along, of_some_step}
 
-module _ (well : ProgrammesChooseWell) (facts : SeasonFacts) (state : State) (window : ℕ) (round : Round) (sound : IsSound facts) (course : IsCourse facts state)
+module _ (well : ProgrammesChooseWell) (facts : SeasonFacts) (state : State) (window : ℕ) (round : Round) (sound : IsSound facts) (order : IsOrderly facts state)
     (is : slice_get state.rounds window ≡ Some round) where
   abbrev table : SeatTable
   table = matrix_then facts state window
@@ -62,7 +62,7 @@ module _ (well : ProgrammesChooseWell) (facts : SeasonFacts) (state : State) (wi
 
   pub shown_by : (prog : ℕ) (programme : Programme) → slice_get round.programmes prog ≡ Some programme → Shown prog programme
   shown_by prog programme there =
-      let made = made_then facts state window round course is in
+      let made = made_then facts state window round order is in
       let inside = slice_get_within round.programmes prog programme there in
       let count = made.count in
       let below : prog < length table.programmes = omega (arith, inside, count) in
@@ -70,7 +70,7 @@ module _ (well : ProgrammesChooseWell) (facts : SeasonFacts) (state : State) (wi
       record {
         admissions = shown.0;
         below = below;
-        may = applicants_may (rule_of facts.version nobody table) (MayApplyIn table) (length table.programmes) prog seekers round.seats (fair_over facts state window round sound course is).market (well facts.version nobody table (course.seats (suc window)))
+        may = applicants_may (rule_of facts.version nobody table) (MayApplyIn table) (length table.programmes) prog seekers round.seats (fair_over facts state window round sound order is).market (well facts.version nobody table (order.course.seats (suc window)))
             below made.best.fair.allocation.full;
         choice = shown.1;
         shows = shown.2;
@@ -81,8 +81,8 @@ module _ (well : ProgrammesChooseWell) (facts : SeasonFacts) (state : State) (wi
       → AreCutoffsIn (seats_in facts.matrix prog) programme.steps lines
       → MeetsCutoff facts.version (seats_in table prog) shown.admissions person kind ↔ IsWithinStep (list_in facts.matrix prog) person kind lines
   told tell prog programme shown lines person kind small are =
-      let raise = raised_by facts state course prog (suc window) in
-      let both = tell facts.version (seats_in table prog) (applicants prog seekers round.seats) shown.admissions programme lines person kind ((course.seats (suc window)).sound prog shown.below)
+      let raise = raised_by facts state order.course prog (suc window) in
+      let both = tell facts.version (seats_in table prog) (applicants prog seekers round.seats) shown.admissions programme lines person kind ((order.course.seats (suc window)).sound prog shown.below)
       shown.may shown.choice shown.shows (more_cutoffs (seats_in facts.matrix prog) (seats_in table prog) raise programme.steps lines are) small in
       subst (λ (l : ListId). MeetsCutoff facts.version (seats_in table prog) shown.admissions person kind ↔ IsWithinStep l person kind lines) raise.list both
 
@@ -97,7 +97,7 @@ module _ (well : ProgrammesChooseWell) (facts : SeasonFacts) (state : State) (wi
   refused_by : (i prog : ℕ) (person : Person) (programme : Programme) (shown : Shown prog programme) (b : InRound facts state window i round person)
       → place_of b.s.list prog < rank_of b.s.list b.seat → IsRefused shown.admissions person
   refused_by i prog person programme shown b later kind taken =
-      let fair = (made_then facts state window round course is).best.fair in
+      let fair = (made_then facts state window round order is).best.fair in
       let under : AdmitsUnder facts.version (seats_in table prog) (applicants prog seekers round.seats) b.s.person kind =
       (shown.admissions, shown.choice, subst (λ p. IsAmong p (admitted_by shown.admissions kind)) (sym b.person_is) taken) in
       let got = (fair.agrees prog i b.s (Under kind) shown.below b.there).0 under in
@@ -110,7 +110,7 @@ module _ (well : ProgrammesChooseWell) (facts : SeasonFacts) (state : State) (wi
       → IsJoinedBy facts.version (seats_in table prog) (applicants prog seekers round.seats) (applicants prog seekers round.seats) shown.admissions shown.admissions person
   again prog programme shown person here = record {
     both = record {
-      are_seats = (course.seats (suc window)).sound prog shown.below;
+      are_seats = (order.course.seats (suc window)).sound prog shown.below;
       distinct = shown.may.distinct;
       may = shown.may;
       part = among_itself (applicants prog seekers round.seats);
@@ -125,9 +125,9 @@ module _ (well : ProgrammesChooseWell) (facts : SeasonFacts) (state : State) (wi
   sought_there : (i prog : ℕ) (person : Person) (b : InRound facts state window i round person) → place_of b.s.list prog < length b.s.list
       → (programme : Programme) × (slice_get round.programmes prog ≡ Some programme)
   sought_there i prog person b less =
-      let made = made_then facts state window round course is in
+      let made = made_then facts state window round order is in
       let read = place_read b.s.list prog less in
-      let below : prog < length table.programmes = subst (λ n. n < length table.programmes) read.2 ((fair_over facts state window round sound course is).market.below i (place_of b.s.list prog) b.s read.0 b.there read.1) in
+      let below : prog < length table.programmes = subst (λ n. n < length table.programmes) read.2 ((fair_over facts state window round sound order is).market.below i (place_of b.s.list prog) b.s read.0 b.there read.1) in
       there_is round.programmes prog (let count = made.count in omega (arith, below, count))
 
   pub outside : CutoffsDecideAdmissions → LinesTellCutoffs → (i prog : ℕ) (person : Person) (cutoffs : ℕ → List StepCutoff) → IsTraitSet person.traits → AreCutoffsThen facts round cutoffs
@@ -149,7 +149,7 @@ module _ (well : ProgrammesChooseWell) (facts : SeasonFacts) (state : State) (wi
       → AreCutoffsThen facts round cutoffs → (b : InRound facts state window i round person) → b.seat ≡ Some own
       → (place_of b.s.list own.prog.0 < length b.s.list) × ((step : StepKind) × (own.step ≡ Under step) × IsWithinFirst (list_in facts.matrix own.prog.0) person step (cutoffs own.prog.0))
   holder_within one decide tell i person own cutoffs small are b held =
-      let made = made_then facts state window round course is in
+      let made = made_then facts state window round order is in
       let fair = made.best.fair in
       let prog = own.prog.0 in
       let has : slice_get round.seats i ≡ Some (Some own) = b.has ∙ ap Some held in
@@ -160,7 +160,7 @@ module _ (well : ProgrammesChooseWell) (facts : SeasonFacts) (state : State) (wi
       let seat_is : own ≡ seat_at prog own.step = seat_same own (seat_at prog own.step) refl refl in
       let under = is_under facts.version table prog people b.s.person own.step ((fair.agrees prog i b.s own.step shown.below b.there).1 (has ∙ ap (λ z. Some (Some z)) seat_is)) in
       let admitted : AdmitsUnder facts.version (seats_in table prog) people b.s.person under.step = under.chosen in
-      let equal = one facts.version (seats_in table prog) people admitted.0 shown.admissions ((course.seats (suc window)).sound prog shown.below) shown.may admitted.1 shown.choice in
+      let equal = one facts.version (seats_in table prog) people admitted.0 shown.admissions ((order.course.seats (suc window)).sound prog shown.below) shown.may admitted.1 shown.choice in
       let taken : IsAmong person (admitted_by shown.admissions under.step) =
       subst (λ (admissions : Admissions). IsAmong person (admitted_by admissions under.step)) equal
       (subst (λ p. IsAmong p (admitted_by admitted.0 under.step)) b.person_is admitted.2) in
@@ -176,20 +176,20 @@ module _ (well : ProgrammesChooseWell) (facts : SeasonFacts) (state : State) (wi
 -- ---- the laws
 
 -- the traits of each candidate are some of the six
-pub small_traits : (facts : SeasonFacts) (state : State) (window : ℕ) (person : Person) → IsSound facts → IsCourse facts state → IsAmong person facts.people → IsTraitSet person.traits
-small_traits facts state window person sound course here =
-    all_among (λ (one : Person). IsTraitSet one.traits) facts.people person (may_enter facts state window sound course).traits here
+pub small_traits : (facts : SeasonFacts) (state : State) (window : ℕ) (person : Person) → IsSound facts → IsOrderly facts state → IsAmong person facts.people → IsTraitSet person.traits
+small_traits facts state window person sound order here =
+    all_among (λ (one : Person). IsTraitSet one.traits) facts.people person (may_enter facts state window sound order).traits here
 
 pub refusals_are_outside : AreOrderly → ProgrammesChooseWell → CutoffsDecideAdmissions → LinesTellCutoffs → (facts : SeasonFacts) → RefusalsAreOutside facts
 refusals_are_outside orderly well decide tell facts entries state window round person cutoffs prog published here are wanted later within =
-    let course = course_of orderly facts entries state window round published in
+    let order = order_of orderly facts entries state window round published in
     let i = place_among facts.people person here in
-    let b = in_round facts state window i.0 round person published.sound course published.there i.1 in
+    let b = in_round facts state window i.0 round person published.sound order published.there i.1 in
     let list = wanted_then facts state window person.id.0 in
     let less : place_of b.s.list prog < length b.s.list = subst (λ l. place_of l prog < length l) (sym b.list_is) (ltb-true _ _ wanted) in
     let earlier : place_of b.s.list prog < rank_of b.s.list b.seat =
     subst (λ l. place_of l prog < rank_of l b.seat) (sym b.list_is) (subst (λ o. place_of list prog < rank_of list o) b.seat_is later) in
-    outside well facts state window round published.sound course published.there decide tell i.0 prog person cutoffs (small_traits facts state window person published.sound course here) are b less earlier within
+    outside well facts state window round published.sound order published.there decide tell i.0 prog person cutoffs (small_traits facts state window person published.sound order here) are b less earlier within
 
 pub within_cutoffs_is_seated : ((facts : SeasonFacts) → RefusalsAreOutside facts) → (facts : SeasonFacts) → WithinCutoffsIsSeated facts
 within_cutoffs_is_seated outside facts entries state window round person cutoffs prog published here are wanted within =
@@ -202,12 +202,12 @@ within_cutoffs_is_seated outside facts entries state window round person cutoffs
 
 pub seats_are_the_first : AreOrderly → ProgrammesChooseWell → CutoffsDecideSteps → CutoffsDecideAdmissions → LinesTellCutoffs → OneProgrammeChoice → (facts : SeasonFacts) → SeatsAreTheFirst facts
 seats_are_the_first orderly well steps decide tell one facts entries state window round person cutoffs published here are =
-    let course = course_of orderly facts entries state window round published in
+    let order = order_of orderly facts entries state window round published in
     let i = place_among facts.people person here in
-    let b = in_round facts state window i.0 round person published.sound course published.there i.1 in
-    let small = small_traits facts state window person published.sound course here in
+    let b = in_round facts state window i.0 round person published.sound order published.there i.1 in
+    let small = small_traits facts state window person published.sound order here in
     subst (λ (list : List ProgId). IsSeatOfFirst (list_in facts.matrix) cutoffs person list (seat_of facts (Some round) person.id.0)) b.list_is
     (subst (IsSeatOfFirst (list_in facts.matrix) cutoffs person b.s.list) (sym b.seat_is)
     (first_along (list_in facts.matrix) cutoffs person b.s.list b.seat
-    (λ prog less later within. outside well facts state window round published.sound course published.there decide tell i.0 prog person cutoffs small are b less later within)
-    (λ own held. holder_within well facts state window round published.sound course published.there one steps tell i.0 person own cutoffs small are b held)))
+    (λ prog less later within. outside well facts state window round published.sound order published.there decide tell i.0 prog person cutoffs small are b less later within)
+    (λ own held. holder_within well facts state window round published.sound order published.there one steps tell i.0 person own cutoffs small are b held)))

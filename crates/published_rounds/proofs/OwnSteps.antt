@@ -20,7 +20,7 @@ use Rattle.rounds.proofs.Entrants.{market}
 use Rattle.office_moves.specs.Facts.{SeasonFacts, lists_in_order}
 use Rattle.office_moves.specs.Promise.{all_sought_then}
 use Rattle.published_rounds.specs.Published.{market_then, matrix_then, wanted_then}
-use Rattle.published_rounds.proofs.Places.{AreOrderly, course_of, in_round, made_then, may_enter}
+use Rattle.published_rounds.proofs.Places.{AreOrderly, order_of, in_round, made_then, may_enter}
 use Rattle.published_rounds.specs.OwnSteps.{IsChoiceOfOwnSteps, rule_of_own_steps}
 use Rattle.published_rounds.specs.RuleLaws.{DereservationHurtNobody, DereservationHurtsNobody}
 
@@ -55,12 +55,12 @@ dereservation_hurts_nobody well version table seekers seats others i s seat othe
 
 pub dereservation_hurt_nobody : AreOrderly → DereservationHurtsNobody → (facts : SeasonFacts) → DereservationHurtNobody facts
 dereservation_hurt_nobody orderly hurts facts entries state window round others i person other published fair at has =
-    let course = course_of orderly facts entries state window round published in
+    let order = order_of orderly facts entries state window round published in
     let table = matrix_then facts state window in
-    let ok = course.seats (suc window) in
-    let here = market table facts.people (lists_in_order facts) (all_sought_then facts state window) ok (may_enter facts state window published.sound course) in
-    let made = made_then facts state window round course published.there in
-    let mine = in_round facts state window i round person published.sound course published.there at in
+    let ok = order.course.seats (suc window) in
+    let here = market table facts.people (lists_in_order facts) (all_sought_then facts state window) ok (may_enter facts state window published.sound order) in
+    let made = made_then facts state window round order published.there in
+    let mine = in_round facts state window i round person published.sound order published.there at in
     let result : rank_of mine.s.list mine.seat ≤ rank_of mine.s.list other =
     hurts facts.version table (market_then facts state window) others round.seats i mine.s other mine.seat ok here fair made.best mine.there has mine.has in
     subst (λ o. rank_of (wanted_then facts state window person.id.0) o ≤ rank_of (wanted_then facts state window person.id.0) other) (sym mine.seat_is)

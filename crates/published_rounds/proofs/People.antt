@@ -17,7 +17,7 @@ use Rattle.office_moves.specs.Facts.{SeasonFacts}
 use Rattle.office_moves.specs.State.{seat_of}
 use Rattle.history_laws.proofs.Fits.{full_seekers, map_at}
 use Rattle.published_rounds.specs.Published.{market_then, matrix_then, wanted_then}
-use Rattle.published_rounds.proofs.Places.{AreOrderly, course_of, in_round, place_among}
+use Rattle.published_rounds.proofs.Places.{AreOrderly, order_of, in_round, place_among}
 use Rattle.published_rounds.specs.Fair.{AreFairOver, IsDecided, IsOpenTo}
 use Rattle.published_rounds.specs.FairLaws.{ClosingPlacesDecide, NoSeatIsWasted, NobodyIsEnviedWhereFair, NobodyIsKeptWhereFair, SeatsAreWithinWhereFair}
 use Rattle.published_rounds.specs.People.{AreFairTo, AreJustified, FairSeatsAreJustified, IsDecidedFor, IsOpenFor, PublishedRoundsAreJustified, seats_by, seekers_by}
@@ -150,17 +150,17 @@ fair_to version table people wanted got seekers seats full who gets over =
 
 pub published_rounds_are_justified : AreOrderly → FairSeatsAreJustified → (facts : SeasonFacts) → PublishedRoundsAreJustified facts
 published_rounds_are_justified orderly justify facts entries state window round published =
-    let course = course_of orderly facts entries state window round published in
+    let order = order_of orderly facts entries state window round published in
     let sound = published.sound in
     justify facts.version (matrix_then facts state window) facts.people (wanted_then facts state window) (seat_of facts (Some round))
     (fair_to facts.version (matrix_then facts state window) facts.people (wanted_then facts state window) (seat_of facts (Some round)) (market_then facts state window) round.seats
     (full_seekers facts state window sound)
     (λ i s person there at.
-    let mine = in_round facts state window i round person sound course published.there at in
+    let mine = in_round facts state window i round person sound order published.there at in
     let one : s ≡ mine.s = (let e = mine.there in cc) in
     (ap (λ (z : Seeker). z.person) one ∙ mine.person_is, ap (λ (z : Seeker). z.list) one ∙ mine.list_is))
     (λ i seat person there at.
-    let mine = in_round facts state window i round person sound course published.there at in
+    let mine = in_round facts state window i round person sound order published.there at in
     let one : seat ≡ mine.seat = (let e = mine.has in cc) in
     one ∙ sym mine.seat_is)
-    (fair_over facts state window round sound course published.there))
+    (fair_over facts state window round sound order published.there))

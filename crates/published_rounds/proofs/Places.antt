@@ -20,7 +20,6 @@ use Rattle.office_moves.specs.History.{Reaches}
 use Rattle.office_moves.specs.Promise.{all_sought_then, sought_then}
 use Rattle.office_moves.specs.State.{State, opening, seat_of}
 use Rattle.office_moves.specs.declared.moves.Entry.{Entry}
-use Rattle.history_laws.specs.Course.{IsCourse}
 use Rattle.history_laws.specs.Orderly.{IsOrderly}
 use Rattle.history_laws.proofs.Entering.{entrants}
 use Rattle.history_laws.proofs.Fits.{enters, full_seekers}
@@ -30,8 +29,8 @@ use Rattle.published_rounds.specs.Published.{IsPublished, IsThatOrEarlier, marke
 abbrev pub AreOrderly : Type 0
 AreOrderly = (facts : SeasonFacts) (entries : List Entry) (state : State) → IsSound facts → Reaches facts opening entries state → IsOrderly facts state
 
-pub course_of : AreOrderly → (facts : SeasonFacts) (entries : List Entry) (state : State) (window : ℕ) (round : Round) → IsPublished facts entries state window round → IsCourse facts state
-course_of orderly facts entries state window round published = (orderly facts entries state published.sound published.history.reached).course
+pub order_of : AreOrderly → (facts : SeasonFacts) (entries : List Entry) (state : State) (window : ℕ) (round : Round) → IsPublished facts entries state window round → IsOrderly facts state
+order_of orderly facts entries state window round published = orderly facts entries state published.sound published.history.reached
 
 -- one of the people is at a place
 pub place_among : (people : List Person) (person : Person) → IsAmong person people → (i : ℕ) × (slice_get people i ≡ Some person)
@@ -56,24 +55,24 @@ pub record InRound (facts : SeasonFacts) (state : State) (window place : ℕ) (r
   pub has : slice_get round.seats place ≡ Some seat
   pub seat_is : seat_of facts (Some round) person.id.0 ≡ seat
 
-pub made_then : (facts : SeasonFacts) (state : State) (window : ℕ) (round : Round) → IsCourse facts state → slice_get state.rounds window ≡ Some round
+pub made_then : (facts : SeasonFacts) (state : State) (window : ℕ) (round : Round) → IsOrderly facts state → slice_get state.rounds window ≡ Some round
     → IsRound facts.version nobody (matrix_then facts state window) facts.people (lists_in_order facts) (suc window) (all_sought_then facts state window) round
-made_then facts state window round course is =
+made_then facts state window round order is =
     subst (λ n. IsRound facts.version nobody (matrix_then facts state window) facts.people (lists_in_order facts) n (all_sought_then facts state window) round) (omega arith)
-    (course.made window round is)
+    (order.alone window round is)
 
-pub in_round : (facts : SeasonFacts) (state : State) (window place : ℕ) (round : Round) (person : Person) → IsSound facts → IsCourse facts state → slice_get state.rounds window ≡ Some round
+pub in_round : (facts : SeasonFacts) (state : State) (window place : ℕ) (round : Round) (person : Person) → IsSound facts → IsOrderly facts state → slice_get state.rounds window ≡ Some round
     → slice_get facts.people place ≡ Some person → InRound facts state window place round person
-in_round facts state window place round person sound course is at =
+in_round facts state window place round person sound order is at =
     let less = slice_get_within facts.people place person at in
     let full = full_seekers facts state window sound in
     let found = there_is (market_then facts state window) place (omega (arith, less, full)) in
     let entry = enters facts state window place found.0 sound found.1 in
     let one : found.0.person ≡ person = (let e = entry.person_at in cc) in
-    let size = (made_then facts state window round course is).best.fair.allocation.full in
+    let size = (made_then facts state window round order is).best.fair.allocation.full in
     let seat = there_is round.seats place (omega (arith, less, full, size)) in
     let leaves = entry.leaves ∙ leaves_same facts.matrix (matrix_then facts state window) (sought_then facts state window found.0.person.id.0) (list_of facts.lists found.0.person.id.0)
-    (course.programmes (suc window)) in
+    (order.course.programmes (suc window)) in
     record {
       s = found.0;
       there = found.1;
@@ -84,5 +83,5 @@ in_round facts state window place round person sound course is at =
       seat_is = ap (λ o. option_and_then (λ s. s) o) (at_person-get facts.people round.seats place person sound.ranks.rising at ∙ seat.1);
     }
 
-pub may_enter : (facts : SeasonFacts) (state : State) (window : ℕ) → IsSound facts → IsCourse facts state → AreEntrants (matrix_then facts state window) facts.people (lists_in_order facts)
-may_enter facts state window sound course = entrants facts (matrix_then facts state window) sound (course.programmes (suc window))
+pub may_enter : (facts : SeasonFacts) (state : State) (window : ℕ) → IsSound facts → IsOrderly facts state → AreEntrants (matrix_then facts state window) facts.people (lists_in_order facts)
+may_enter facts state window sound order = entrants facts (matrix_then facts state window) sound (order.course.programmes (suc window))

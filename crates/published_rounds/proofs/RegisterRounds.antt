@@ -24,7 +24,7 @@ use Rattle.office_moves.specs.Promise.{all_sought_then}
 use Rattle.office_moves.specs.State.{State, seat_of}
 use Rattle.office_moves.specs.declared.moves.Entry.{Entry}
 use Rattle.published_rounds.specs.Published.{IsPublished, market_then, matrix_then, wanted_then}
-use Rattle.published_rounds.proofs.Places.{AreOrderly, course_of, in_round, made_then, may_enter}
+use Rattle.published_rounds.proofs.Places.{AreOrderly, order_of, in_round, made_then, may_enter}
 use Rattle.published_rounds.specs.BetterOff.{BetterOffIsNoWorse, NeverHurtsInARound, OneIsBetterOff}
 use Rattle.published_rounds.specs.Registers.{MovingUpNeverHurts, MovingUpNeverHurtsInARound}
 use Rattle.published_rounds.proofs.Improved.{Improves, no_worse}
@@ -125,12 +125,12 @@ pub in_two_rounds : AreOrderly → (facts other : SeasonFacts) (entries others :
     → slice_get facts.people i ≡ Some before → slice_get other.people i ≡ Some after → HasNoWorse facts state window other.people i
     → rank_of (wanted_then facts state window before.id.0) (seat_of other (Some later) after.id.0) ≤ rank_of (wanted_then facts state window before.id.0) (seat_of facts (Some round) before.id.0)
 in_two_rounds orderly facts other entries others state then window i round later before after published published' same_version same_lists same_matrix same_sought there there' no_worse =
-    let course = course_of orderly facts entries state window round published in
-    let course' = course_of orderly other others then window later published' in
-    let made = made_then facts state window round course published.there in
-    let made' = made_then other then window later course' published'.there in
-    let mine = in_round facts state window i round before published.sound course published.there there in
-    let his = in_round other then window i later after published'.sound course' published'.there there' in
+    let order = order_of orderly facts entries state window round published in
+    let order' = order_of orderly other others then window later published' in
+    let made = made_then facts state window round order published.there in
+    let made' = made_then other then window later order' published'.there in
+    let mine = in_round facts state window i round before published.sound order published.there there in
+    let his = in_round other then window i later after published'.sound order' published'.there there' in
     let table = matrix_then facts state window in
     let lists : lists_in_order other ≡ lists_in_order facts = ap (λ (l : Lists). map (λ held. held.1) l) same_lists in
     let by_version = subst (λ (v : ℕ). IsBest (rule_of v nobody (matrix_then other then window)) (length (matrix_then other then window).programmes)
@@ -141,9 +141,9 @@ in_two_rounds orderly facts other entries others state then window i round later
     (seekers_of table other.people l (all_sought_then other then window)) later.seats) lists by_matrix in
     let best = subst (λ (q : List Seek). IsBest (rule_of facts.version nobody table) (length table.programmes) (seekers_of table other.people (lists_in_order facts) q) later.seats) same_sought by_lists in
     let enter' = subst (λ (l : List (List ProgId)). AreEntrants table other.people l) lists (subst (λ (t : SeatTable). AreEntrants t other.people (lists_in_order other)) same_matrix
-    (may_enter other then window published'.sound course')) in
+    (may_enter other then window published'.sound order')) in
     let result : rank_of mine.s.list his.seat ≤ rank_of mine.s.list mine.seat =
-    no_worse round.seats later.seats mine.s mine.seat his.seat (course.seats (suc window)) (may_enter facts state window published.sound course) enter' made.best.fair best
+    no_worse round.seats later.seats mine.s mine.seat his.seat (order.course.seats (suc window)) (may_enter facts state window published.sound order) enter' made.best.fair best
     mine.there mine.has his.has in
     let list = wanted_then facts state window before.id.0 in
     let by_list : rank_of list his.seat ≤ rank_of list mine.seat = subst (λ l. rank_of l his.seat ≤ rank_of l mine.seat) mine.list_is result in

@@ -8,7 +8,7 @@ use Rattle.rounds.proofs.Entrants.{market}
 use Rattle.office_moves.specs.Facts.{SeasonFacts, lists_in_order}
 use Rattle.office_moves.specs.Promise.{all_sought_then}
 use Rattle.published_rounds.specs.Published.{market_then, matrix_then}
-use Rattle.published_rounds.proofs.Places.{AreOrderly, course_of, made_then, may_enter}
+use Rattle.published_rounds.proofs.Places.{AreOrderly, order_of, made_then, may_enter}
 use Rattle.published_rounds.specs.RuleLaws.{FairAndSafeIsBest, OnlyTheRoundIsSafe}
 use Rattle.published_rounds.proofs.Safe.{is_best}
 
@@ -30,11 +30,11 @@ fair_and_safe_is_best well no_fewer version table gives ok =
 
 pub only_the_round_is_safe : AreOrderly → ProgrammesChooseWell → FairAndSafeIsBest → (facts : SeasonFacts) → OnlyTheRoundIsSafe facts
 only_the_round_is_safe orderly well only facts entries state window round gives published fair safe =
-    let course = course_of orderly facts entries state window round published in
+    let order = order_of orderly facts entries state window round published in
     let table = matrix_then facts state window in
     let seekers = market_then facts state window in
-    let ok = course.seats (suc window) in
-    let here = market table facts.people (lists_in_order facts) (all_sought_then facts state window) ok (may_enter facts state window published.sound course) in
-    let made = made_then facts state window round course published.there in
+    let ok = order.course.seats (suc window) in
+    let here = market table facts.people (lists_in_order facts) (all_sought_then facts state window) ok (may_enter facts state window published.sound order) in
+    let made = made_then facts state window round order published.there in
     one_best (rule_of facts.version nobody table) (MayApplyIn table) (length table.programmes) seekers (gives seekers) round.seats here (well facts.version nobody table ok)
     ((only facts.version table gives ok).0 (fair, safe) seekers here) made.best

@@ -33,7 +33,7 @@ use Rattle.office_moves.specs.State.{seat_of}
 use Rattle.office_moves.proofs.Sums.{rows_less}
 use Rattle.special_round.specs.Remaining.{ever_given, may_be_taken}
 use Rattle.published_rounds.specs.Published.{market_then, matrix_then, wanted_then}
-use Rattle.published_rounds.proofs.Places.{AreOrderly, course_of, in_round, place_among}
+use Rattle.published_rounds.proofs.Places.{AreOrderly, order_of, in_round, place_among}
 use Rattle.published_rounds.proofs.FairThen.{fair_over}
 use Rattle.published_rounds.specs.RuleLaws.{VersionTwoHurtsNobody, VersionTwoWouldHurtNobody}
 
@@ -107,12 +107,12 @@ version_two_hurts_nobody well version table seekers seats others i s seat other 
 
 pub version_two_would_hurt_nobody : AreOrderly → VersionTwoHurtsNobody → (facts : SeasonFacts) → VersionTwoWouldHurtNobody facts
 version_two_would_hurt_nobody orderly hurts facts entries state window number round other person published again among =
-    let course = course_of orderly facts entries state window round published in
+    let order = order_of orderly facts entries state window round published in
     let table = matrix_then facts state window in
     let seekers = market_then facts state window in
-    let over = fair_over facts state window round published.sound course published.there in
+    let over = fair_over facts state window round published.sound order published.there in
     let at = place_among facts.people person among in
-    let mine = in_round facts state window at.0 round person published.sound course published.there at.1 in
+    let mine = in_round facts state window at.0 round person published.sound order published.there at.1 in
     let x = value_at seekers other.seats at.0 mine.s again.best.fair.allocation.full mine.there in
     let his : seat_of facts (Some other) person.id.0 ≡ x.0 = ap (λ o. option_and_then (λ s. s) o) (at_person-get facts.people other.seats at.0 person published.sound.ranks.rising at.1 ∙ x.1) in
     let result : rank_of mine.s.list x.0 ≤ rank_of mine.s.list mine.seat =

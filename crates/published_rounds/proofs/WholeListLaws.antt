@@ -29,7 +29,6 @@ use Rattle.office_moves.specs.History.{Reaches}
 use Rattle.office_moves.specs.Promise.{all_sought_then, sought_then, standing_then}
 use Rattle.office_moves.specs.State.{State, opening, seat_in}
 use Rattle.office_moves.specs.declared.moves.Entry.{Entry}
-use Rattle.history_laws.specs.Course.{IsCourse}
 use Rattle.history_laws.specs.Orderly.{IsOrderly}
 use Rattle.history_laws.proofs.Entering.{list_there, lists_full}
 use Rattle.history_laws.proofs.Fits.{full_seekers, map_at, seat_there}
@@ -96,14 +95,14 @@ IsBestOnWhole facts state window round =
     IsBest (rule_of facts.version nobody (matrix_then facts state window)) (length (matrix_then facts state window).programmes) (staying facts (matrix_then facts state window) state window) round.seats
 
 -- the first round
-at_first : (facts : SeasonFacts) (state : State) (round : Round) → IsCourse facts state → slice_get state.rounds 0 ≡ Some round → IsBestOnWhole facts state 0 round
-at_first facts state round course is =
+at_first : (facts : SeasonFacts) (state : State) (round : Round) → IsOrderly facts state → slice_get state.rounds 0 ≡ Some round → IsBestOnWhole facts state 0 round
+at_first facts state round order is =
     let table = matrix_then facts state 0 in
     let each = λ (id : ℕ). first_sought (standing_then facts state 0 id) (seat_in facts state.rounds 0 id)
-    (option_map (λ (seat : Seat). place_of (list_of facts.lists id) seat.prog.0) (seat_in facts state.rounds 0 id)) (course.answers 0 id) in
+    (option_map (λ (seat : Seat). place_of (list_of facts.lists id) seat.prog.0) (seat_in facts state.rounds 0 id)) (order.course.answers 0 id) in
     let same : all_sought_then facts state 0 ≡ all_whole_then facts state 0 = λ j. map (λ (person : Person). each person.id.0 j) facts.people in
     subst (λ (seeks : List Seek). IsBest (rule_of facts.version nobody table) (length table.programmes) (seekers_of table facts.people (lists_in_order facts) seeks) round.seats) same
-    (made_then facts state 0 round course is).best
+    (made_then facts state 0 round order is).best
 
 -- ---- from one round to the next
 
@@ -175,7 +174,7 @@ module _ (laws : AreLaws) (facts : SeasonFacts) (state : State) (window : ℕ) (
             ] in
             let result = laws.more_seats facts.version nobody nobody table more facts.people (lists_in_order facts) (all_whole_then facts state window) (all_whole_then facts state (suc window)) prev.seats others i
             st.list Whole seat other (λ p person sure. sure) (orderly.course.seats (suc window)) (orderly.course.seats (suc (suc window))) (orderly.course.raised (suc window))
-            (may_enter facts state window sound orderly.course) some_nothing st.list_at (sought_whole window i t.person st.person_at ∙ ap Some same)
+            (may_enter facts state window sound orderly) some_nothing st.list_at (sought_whole window i t.person st.person_at ∙ ap Some same)
             (sought_whole (suc window) i t.person st.person_at ∙ ap Some all) before.fair best has has' in
             let by_list : rank_of st.list other ≤ rank_of st.list seat = subst (λ l. rank_of l other ≤ rank_of l seat) (left_whole table st.list 0 st.list) result in
             let list : t.list ≡ st.list = st.leaves ∙ (ap (λ q. seek_leaves more q st.list) all ∙ left_whole more st.list 0 st.list) in
@@ -231,13 +230,13 @@ module _ (laws : AreLaws) (facts : SeasonFacts) (state : State) (window : ℕ) (
   next_best : IsBestOnWhole facts state (suc window) round
   next_best =
       fronts_are_best (rule_of facts.version nobody more) (MayApplyIn more) (length more.programmes) (laws.well facts.version nobody more (orderly.course.seats (suc (suc window)))) whole now prev.seats round.seats
-      (market more facts.people (lists_in_order facts) (all_whole_then facts state (suc window)) (orderly.course.seats (suc (suc window))) (may_enter facts state (suc window) sound orderly.course))
-      (market more facts.people (lists_in_order facts) (all_sought_then facts state (suc window)) (orderly.course.seats (suc (suc window))) (may_enter facts state (suc window) sound orderly.course))
-      fronts no_worse (made_then facts state (suc window) round orderly.course is').best
+      (market more facts.people (lists_in_order facts) (all_whole_then facts state (suc window)) (orderly.course.seats (suc (suc window))) (may_enter facts state (suc window) sound orderly))
+      (market more facts.people (lists_in_order facts) (all_sought_then facts state (suc window)) (orderly.course.seats (suc (suc window))) (may_enter facts state (suc window) sound orderly))
+      fronts no_worse (made_then facts state (suc window) round orderly is').best
 
 best_on_whole : AreLaws → (facts : SeasonFacts) (state : State) (window : ℕ) (round : Round) → IsSound facts → IsOrderly facts state → slice_get state.rounds window ≡ Some round
     → EverybodyFloats facts state window → IsBestOnWhole facts state window round
-best_on_whole laws facts state zero round sound orderly is floats = at_first facts state round orderly.course is
+best_on_whole laws facts state zero round sound orderly is floats = at_first facts state round orderly is
 best_on_whole laws facts state (suc window) round sound orderly is floats =
     let less = slice_get_within state.rounds (suc window) round is in
     let prev = there_is state.rounds window (omega (arith, less)) in

@@ -28,6 +28,7 @@ use Rattle.programme_lists.specs.Chosen.{ShowsFrom}
 use Rattle.programme_lists.specs.Programme.{Admissions, admitted_by}
 use Rattle.programme_lists.specs.declared.programme.Programme.{Programme}
 use Rattle.seat_matrix.specs.Matrix.{seats_in}
+use Rattle.rounds.specs.Round.{IsRound}
 use Rattle.rounds.specs.Rule.{MayApplyIn, ProgrammesChooseWell, nobody, rule_of}
 use Rattle.rounds.specs.declared.round.Round.{Round}
 use Rattle.rounds.proofs.Entrants.{market}
@@ -184,11 +185,14 @@ pub record Laws : Type 0 where
 
 -- ---- a cut that published a round
 
-module _ (laws : Laws) (facts : SeasonFacts) (sound : IsSound facts) (papers : Papers) (old : State) (orderly : IsOrderly facts old) (round : Round) (next : IsNextRound facts old round)
+module _ (laws : Laws) (facts : SeasonFacts) (sound : IsSound facts) (papers : Papers) (old : State) (orderly : IsOrderly facts old) (round : Round) (follows : IsNextRound facts old round)
     (after : IsOrderly facts (with_round old round)) (early : old.now < facts.rounds) (rows_are : rows_after papers old.now ≡ allot_rows facts round)
     (lists_are : lists_after papers (length facts.matrix.programmes) old.now ≡ round.programmes) where
   abbrev seekers : List Seeker
   seekers = seekers_at facts old
+
+  next : IsRound facts.version nobody (matrix_at facts old) facts.people (lists_in_order facts) (old.now + 1) (next_seeks facts old) round
+  next = orderly.next_alone early round follows
 
   full : length round.seats ≡ length facts.people
   full = next.best.fair.allocation.full ∙ full_seekers facts old sound

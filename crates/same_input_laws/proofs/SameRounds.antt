@@ -15,6 +15,7 @@ use Rattle.seat_matrix.specs.Matrix.{SeatTable}
 use Rattle.seeks.specs.declared.seek.Seek.{Seek}
 use Rattle.allocations.specs.Fair.{IsBest}
 use Rattle.allocations.proofs.Claims.{one_best}
+use Rattle.rounds.specs.Round.{IsRound}
 use Rattle.rounds.specs.Rule.{MayApplyIn, ProgrammesChooseWell, nobody, rule_of, seekers_of}
 use Rattle.rounds.specs.declared.round.Round.{Round}
 use Rattle.rounds.proofs.Entrants.{market}
@@ -81,7 +82,10 @@ module _ (facts : SeasonFacts) (sound : IsSound facts) (papers : Papers) (well :
     matrix_same : matrix_at facts rep ≡ matrix_at facts old
     matrix_same = ap (λ (s : State). matrix_at facts s) alike
 
-    module _ (orderly : IsOrderly facts old) (round : Round) (next : IsNextRound facts old round) (best : IsBestCut facts papers rep) where
+    module _ (orderly : IsOrderly facts old) (round : Round) (early : old.now < facts.rounds) (follows : IsNextRound facts old round) (best : IsBestCut facts papers rep) where
+      next : IsRound facts.version nobody (matrix_at facts old) facts.people (lists_in_order facts) (old.now + 1) (next_seeks facts old) round
+      next = orderly.next_alone early round follows
+
       abbrev IsBestBy : SeatTable → ℕ → List Seek → List (Option Seat) → Type 0
       IsBestBy table count seeks seats = IsBest (rule_of facts.version nobody table) count (seekers_of table facts.people (lists_in_order facts) seeks) seats
 
@@ -114,8 +118,8 @@ module _ (facts : SeasonFacts) (sound : IsSound facts) (papers : Papers) (well :
           bare_with rep (round_of facts papers rep) ∙ (ap (λ (s : State). with_round s (bare_round (round_of facts papers rep))) alike
           ∙ (ap (λ (r : Round). with_round (bare old) r) same_round ∙ sym (bare_with old round)))
 
-      publishes : old.now < facts.rounds → Next old (with_round old round) (with_round rep (round_of facts papers rep))
-      publishes early =
+      publishes : Next old (with_round old round) (with_round rep (round_of facts papers rep))
+      publishes =
           let order = orderly.course.order (omega (arith, early)) in
           record {
             alike = alike_after;
@@ -149,7 +153,7 @@ module _ (facts : SeasonFacts) (sound : IsSound facts) (papers : Papers) (well :
     decides orderly mid reply (Lift row) early fine does =
         quiet mid (with_raise rep row) (ap (λ (s : State). with_raise s row) alike ∙ ap bare (sym does.1)) (ap (λ (s : State). s.rounds) does.1) (ap (λ (s : State). s.now) does.1)
     decides orderly mid reply Publish early fine does =
-        subst (λ (s : State). Next old s (with_round rep (round_of facts papers rep))) (sym does.3) (publishes orderly does.0 does.1 (fine.1 refl) (early refl))
+        subst (λ (s : State). Next old s (with_round rep (round_of facts papers rep))) (sym does.3) (publishes orderly does.0 (early refl) does.1 (fine.1 refl))
     decides orderly mid reply Finish early fine does = subst (λ (s : State). Next old s (with_finals rep (finals_of papers))) (sym does.1) (finishes fine.0)
     decides orderly mid reply (Tell question) early fine does = unmoved mid does.1
 

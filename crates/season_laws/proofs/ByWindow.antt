@@ -254,9 +254,9 @@ module _ (facts : SeasonFacts) (state other : State) (sound : IsSound facts) (or
       let first = there_is state.rounds n less in
       let second = there_is other.rounds n (omega (arith, less, many)) in
       let table = matrix_of_round facts state (suc n) in
-      let made = orderly.course.made n first.0 first.1 in
+      let made = orderly.alone n first.0 first.1 in
       let made' = subst (λ (t : SeatTable). IsRound facts.version nobody t facts.people (lists_in_order facts) (n + 1) (seeks_then facts other n) second.0) (matrices (suc n))
-      (orderly'.course.made n second.0 second.1) in
+      (orderly'.alone n second.0 second.1) in
       let again = subst (λ (z : List Seek). IsRound facts.version nobody table facts.people (lists_in_order facts) (n + 1) z second.0) (seeks_same n up) made' in
       let same = one_round table (n + 1) (seeks_then facts state n) second.0 first.0 (orderly.course.seats (suc n)) (orderly.course.programmes (suc n)) again made in
       second.1 ∙ (ap (λ (r : Round). Some r) same ∙ sym first.1)

@@ -1,5 +1,5 @@
 -- Two answers of different candidates that follow each other can be exchanged.
-use Rattle.std.proofs.Common.{◌≡◌, ◌≢◌, ◌+◌, inl, inr, ℕ, Bool, true, List, [], ◌∷◌, ◌++◌, Some, None, length, map, refl, sym, ap, ◌∙◌, subst, ◌==◌, if◌then◌else◌, append-nil}
+use Rattle.std.proofs.Common.{◌≡◌, ◌≢◌, ◌+◌, inl, inr, ℕ, Bool, true, List, [], ◌∷◌, ◌++◌, Option, Some, None, length, map, refl, sym, ap, ◌∙◌, subst, ◌==◌, if◌then◌else◌, append-nil}
 use Rattle.std.specs.Prelude.{option_map}
 use Rattle.std.proofs.lemmas.Bool.{cases_Bool, eqb-false, eqb-true}
 use Rattle.office_base.specs.Numbered.{rises}
@@ -7,15 +7,17 @@ use Rattle.office_asks.specs.declared.ask.By.{By}
 use Rattle.office_asks.specs.declared.ask.By.TheVariants.{Clerk}
 use Rattle.office_base.specs.declared.seat.Seat.{Seat}
 use Rattle.office_base.specs.declared.person.Person.{Person}
+use Rattle.office_base.specs.declared.person.ProgId.{ProgId}
 use Rattle.office_base.specs.declared.step.StepKind.{StepKind}
 use Rattle.kept_rows.specs.declared.rows.AllotRow.{AllotRow}
 use Rattle.kept_rows.specs.declared.rows.AnswerRow.{AnswerRow}
 use Rattle.kept_rows.specs.declared.rows.RaiseRow.{RaiseRow}
 use Rattle.allocations.specs.Market.{place_of}
 use Rattle.choice_lists.specs.Choices.{list_of}
+use Rattle.seat_matrix.specs.Matrix.{SeatTable}
 use Rattle.seeks.specs.declared.seek.Seek.{Seek}
 use Rattle.rounds.specs.Round.{IsRound, seated}
-use Rattle.rounds.specs.Rule.{nobody}
+use Rattle.rounds.specs.Rule.{guarantees}
 use Rattle.rounds.specs.declared.round.Round.{Round}
 use Rattle.round_options.specs.Options.{holds, seek_after}
 use Rattle.office_moves.specs.Facts.{SeasonFacts, code_in, lists_in_order}
@@ -24,7 +26,7 @@ use Rattle.office_moves.specs.State.{State, View, last_seat, opening, rows_of, s
 use Rattle.office_moves.specs.Raised.{matrix_at, raised}
 use Rattle.office_moves.specs.Decided.{decide_answer, decide_raise, decided}
 use Rattle.office_moves.specs.History.{Reaches, asked, newly}
-use Rattle.office_moves.specs.Moves.{Does, IsNextRound, final_rows, next_seeks, noted, rows_along}
+use Rattle.office_moves.specs.Moves.{Does, IsNextRound, final_rows, kept_programmes, next_seeks, noted, rows_along}
 use Rattle.office_moves.specs.declared.decide.Decision.{Decision}
 use Rattle.office_moves.specs.declared.decide.Decision.TheVariants.{Note, Lift, Publish, Finish}
 use Rattle.office_moves.specs.declared.moves.Act.{Act}
@@ -67,11 +69,17 @@ module _ (facts : SeasonFacts) (state other : State) (alike : AreAlike state oth
   finals_same = λ i. rows_along (facts.rounds + 1)
       (λ (id : ℕ). if holds (standing_at facts (views id i) id (alike.now i)) then last_seat facts (alike.rounds i) id else None) facts.people
 
+  kept_same : kept_programmes facts other ≡ kept_programmes facts state
+  kept_same = λ i. map (λ (person : Person). option_map (λ (seat : Seat). seat.prog)
+      (if holds (standing_at facts (views person.id.0 i) person.id.0 (alike.now i)) then last_seat facts (alike.rounds i) person.id.0 else None)) facts.people
+
   round_same : (round : Round) → IsNextRound facts state round → IsNextRound facts other round
   round_same round next =
-      subst (λ (q : List Seek). IsRound facts.version nobody (matrix_at facts other) facts.people (lists_in_order facts) (other.now + 1) q round) (sym next_same)
-      (subst (λ (n : ℕ). IsRound facts.version nobody (matrix_at facts other) facts.people (lists_in_order facts) (n + 1) (next_seeks facts state) round) (sym alike.now)
-      (subst (λ (r : List RaiseRow). IsRound facts.version nobody (raised facts.matrix r) facts.people (lists_in_order facts) (state.now + 1) (next_seeks facts state) round) (sym alike.raises) next))
+      let IsRoundBy : List (Option ProgId) → SeatTable → ℕ → List Seek → Type 0 = λ kept table n q. IsRound facts.version (guarantees facts.people kept) table facts.people (lists_in_order facts) (n + 1) q round in
+      subst (λ (k : List (Option ProgId)). IsRoundBy k (matrix_at facts other) other.now (next_seeks facts other)) (sym kept_same)
+      (subst (λ (q : List Seek). IsRoundBy (kept_programmes facts state) (matrix_at facts other) other.now q) (sym next_same)
+      (subst (λ (n : ℕ). IsRoundBy (kept_programmes facts state) (matrix_at facts other) n (next_seeks facts state)) (sym alike.now)
+      (subst (λ (r : List RaiseRow). IsRoundBy (kept_programmes facts state) (raised facts.matrix r) state.now (next_seeks facts state)) (sym alike.raises) next)))
 
   -- what a newly accepting decision does
   does_alike : (decision : Decision) (act : Act) (reply : Reply) (after : State) → newly state.now decision ≡ Some act → Does facts state decision reply after

@@ -7,11 +7,11 @@ use Rattle.seat_matrix.specs.Matrix.{seats_in}
 use Rattle.programme_lists.specs.Chosen.{ShowsFrom}
 use Rattle.programme_lists.specs.declared.programme.Programme.{Programme}
 use Rattle.open_then_category.specs.Laws.{AdmittedOnce, ProgrammeChoiceExists}
-use Rattle.rounds.specs.Rule.{MayApplyIn, ProgrammesChooseWell, nobody, rule_of, seekers_of}
+use Rattle.rounds.specs.Rule.{MayApplyIn, ProgrammesChooseWell, rule_of, seekers_of}
 use Rattle.rounds.proofs.Entrants.{market}
 use Rattle.office_moves.specs.Facts.{SeasonFacts, lists_in_order}
 use Rattle.office_moves.specs.Raised.{matrix_at}
-use Rattle.office_moves.specs.Moves.{next_seeks}
+use Rattle.office_moves.specs.Moves.{guaranteed_next, next_seeks}
 use Rattle.history_laws.proofs.Entering.{entrants}
 use Rattle.season_laws.specs.NextRounds.{NextRoundExists}
 use Rattle.allocations.proofs.Best.{best_there}
@@ -53,13 +53,13 @@ next_round laws facts state sound orderly =
     let seeks = next_seeks facts state in
     let seekers = seekers_of table facts.people (lists_in_order facts) seeks in
     let are = market table facts.people (lists_in_order facts) seeks orderly.seats (entrants facts table sound orderly.programmes) in
-    let well = laws.well facts.version nobody table orderly.seats in
-    let best = best_there (rule_of facts.version nobody table) (MayApplyIn table) count seekers are well in
+    let well = laws.well facts.version (guaranteed_next facts state) table orderly.seats in
+    let best = best_there (rule_of facts.version (guaranteed_next facts state) table) (MayApplyIn table) count seekers are well in
     let all = all_there (λ p programme. ShowsFrom facts.version (seats_in table p) (applicants p seekers best.0) programme) 0 count
     (λ p less.
     let below : p < count = omega (arith, less) in
     shown laws.exists laws.once facts.version (seats_in table p) (applicants p seekers best.0) (orderly.seats.sound p below)
-    (applicants_may (rule_of facts.version nobody table) (MayApplyIn table) count p seekers best.0 are well below best.1.fair.allocation.full)) in (
+    (applicants_may (rule_of facts.version (guaranteed_next facts state) table) (MayApplyIn table) count p seekers best.0 are well below best.1.fair.allocation.full)) in (
       record { number = state.now + 1; seeks = seeks; seats = best.0; programmes = all.programmes },
       record {
         number = refl;

@@ -1,5 +1,5 @@
 -- A candidate who floats does no worse in the next round than by other answers, and raises hurt nobody there.
-use Rattle.std.proofs.Common.{◌≡◌, ◌≢◌, ◌<◌, ◌≤◌, inl, ℕ, zero, suc, List, [], ◌∷◌, Option, Some, None, length, map, arith, refl, sym, ap, ◌∙◌, subst}
+use Rattle.std.proofs.Common.{◌≡◌, ◌≢◌, ◌<◌, ◌≤◌, ◌+◌, inl, ℕ, zero, suc, List, [], ◌∷◌, Option, Some, None, length, map, arith, refl, sym, ap, ◌∙◌, subst, if◌then◌else◌}
 use Rattle.std.specs.Prelude.{slice_get, option_map}
 use Rattle.std.specs.Option.{option_and_then}
 use Rattle.std.proofs.lemmas.List.{length-map}
@@ -7,6 +7,7 @@ use Rattle.std.proofs.lemmas.Option.{slice_get_within}
 use Rattle.office_base.proofs.People.{at_person-get}
 use Rattle.office_base.specs.declared.seat.Seat.{Seat}
 use Rattle.office_base.specs.declared.person.Person.{Person}
+use Rattle.office_base.specs.declared.person.ProgId.{ProgId}
 use Rattle.office_base.proofs.Lists.{there_is}
 use Rattle.office_base.proofs.Options.{some_value}
 use Rattle.allocations.specs.Fair.{IsBest, IsFair}
@@ -16,7 +17,8 @@ use Rattle.seat_matrix.specs.Matrix.{SeatTable}
 use Rattle.seeks.specs.Seek.{seek_leaves}
 use Rattle.seeks.specs.declared.seek.Seek.{Seek}
 use Rattle.seeks.specs.declared.seek.Seek.TheVariants.{UpTo}
-use Rattle.rounds.specs.Rule.{nobody, rule_of, seekers_of}
+use Rattle.rounds.specs.Round.{IsRound}
+use Rattle.rounds.specs.Rule.{guarantees, nobody, rule_of, seekers_of}
 use Rattle.rounds.specs.declared.round.Round.{Round}
 use Rattle.rounds.proofs.Entrants.{length_seekers}
 use Rattle.round_options.specs.Options.{after_cut, holds, seek_after}
@@ -25,7 +27,7 @@ use Rattle.round_options.specs.declared.standing.Standing.TheVariants.{Waiting, 
 use Rattle.round_laws.specs.Laws.{AreOtherwise, IsUpTo, MoreSeatsHurtNobody, WiderIsNoWorse}
 use Rattle.round_laws.proofs.People.{one_row}
 use Rattle.office_moves.specs.Facts.{IsSound, SeasonFacts, lists_in_order}
-use Rattle.office_moves.specs.Moves.{IsNextRound, next_seek, next_seeks}
+use Rattle.office_moves.specs.Moves.{IsNextRound, guaranteed_next, kept_programmes, next_seek, next_seeks}
 use Rattle.office_moves.specs.Promise.{standing_then}
 use Rattle.office_moves.specs.Raised.{matrix_at, raised}
 use Rattle.office_moves.specs.State.{State, View, last_seat, left_by, rows_of, seat_in, seat_of, standing_at, view_of}
@@ -90,8 +92,14 @@ seat_at facts round i person seat sound at has = ap (λ o. option_and_then (λ s
 
 module _ (wider : WiderIsNoWorse) (facts : SeasonFacts) (state other : State) (first second : Round) (sound : IsSound facts) (orderly : IsOrderly facts state) (orderly' : IsOrderly facts other)
     (open_now : state.now < facts.rounds) (i : ℕ) (person : Person) (seat : Seat) (there : slice_get facts.people i ≡ Some person) (h : AnswersOtherwise state other person.id.0)
-    (floats : standing_then facts state state.now person.id.0 ≡ Float) (last : last_seat facts state.rounds person.id.0 ≡ Some seat) (next : IsNextRound facts state first)
-    (next' : IsNextRound facts other second) where
+    (floats : standing_then facts state state.now person.id.0 ≡ Float) (last : last_seat facts state.rounds person.id.0 ≡ Some seat) (follows : IsNextRound facts state first)
+    (follows' : IsNextRound facts other second) where
+  next : IsRound facts.version nobody (matrix_at facts state) facts.people (lists_in_order facts) (state.now + 1) (next_seeks facts state) first
+  next = orderly.next_alone open_now first follows
+
+  next' : IsRound facts.version nobody (matrix_at facts other) facts.people (lists_in_order facts) (other.now + 1) (next_seeks facts other) second
+  next' = orderly'.next_alone (let now = h.now in omega (arith, now, open_now)) second follows'
+
   abbrev k : ℕ
   k = place_of (list_of facts.lists person.id.0) seat.prog.0
 
@@ -181,12 +189,20 @@ all_seek_same facts state other h = λ i. map (λ (person : Person). seek_after
     (standing_at facts (record { now = h.now i; rounds = h.rounds i; rows = rows_of person.id.0 (h.answers i) }) person.id.0 (h.now i))
     (option_map (λ (seat : Seat). place_of (list_of facts.lists person.id.0) seat.prog.0) (last_seat facts (h.rounds i) person.id.0))) facts.people
 
+-- and everybody is guaranteed the same
+all_keep_same : (facts : SeasonFacts) (state other : State) → IsRaisedAlone state other → kept_programmes facts other ≡ kept_programmes facts state
+all_keep_same facts state other h = λ i. map (λ (person : Person). option_map (λ (seat : Seat). seat.prog)
+    (if holds (standing_at facts (record { now = h.now i; rounds = h.rounds i; rows = rows_of person.id.0 (h.answers i) }) person.id.0 (h.now i))
+    then last_seat facts (h.rounds i) person.id.0 else None)) facts.people
+
 pub raises_hurt_nobody : MoreSeatsHurtNobody → (facts : SeasonFacts) → RaisesHurtNobody facts
 raises_hurt_nobody more_seats facts state other first second i person sound orderly orderly' h raised next next' there =
     let table = matrix_at facts state in
     let seeks = next_seeks facts state in
-    let best = subst (λ (q : List Seek). IsBest (rule_of facts.version nobody (matrix_at facts other)) (length (matrix_at facts other).programmes)
-    (seekers_of (matrix_at facts other) facts.people (lists_in_order facts) q) second.seats) (all_seek_same facts state other h) next'.best in
+    let IsBestBy : List (Option ProgId) → List Seek → Type 0 = λ kept q. IsBest (rule_of facts.version (guarantees facts.people kept) (matrix_at facts other)) (length (matrix_at facts other).programmes)
+    (seekers_of (matrix_at facts other) facts.people (lists_in_order facts) q) second.seats in
+    let best = subst (λ (k : List (Option ProgId)). IsBestBy k seeks) (all_keep_same facts state other h)
+    (subst (λ (q : List Seek). IsBestBy (kept_programmes facts other) q) (all_seek_same facts state other h) next'.best) in
     let lists = lists_full facts sound in
     let sizes : length seeks ≡ length (lists_in_order facts) = length-map facts.people (λ (q : Person). next_seek facts state q.id.0) ∙ sym lists in
     let full = length_seekers table facts.people (lists_in_order facts) seeks lists sizes in
@@ -202,7 +218,7 @@ raises_hurt_nobody more_seats facts state other first second i person sound orde
     let given = seat_at facts first i person x.0 sound there x.1 in
     let given' = seat_at facts second i person y.0 sound there y.1 in
     let seek = next_seek facts state person.id.0 in
-    let result = more_seats facts.version nobody nobody table (matrix_at facts other) facts.people (lists_in_order facts) seeks seeks first.seats second.seats i list.0 seek x.0 y.0 (λ p person sure. sure) orderly.seats orderly'.seats
+    let result = more_seats facts.version (guaranteed_next facts state) (guaranteed_next facts state) table (matrix_at facts other) facts.people (lists_in_order facts) seeks seeks first.seats second.seats i list.0 seek x.0 y.0 (λ p person sure. sure) orderly.seats orderly'.seats
     raised (entrants facts table sound orderly.programmes) (record { as_many = refl; each = λ j a b at at'. inl (cc) }) list.1 sought sought next.best.fair best x.1 y.1 in
     let by_list = subst (λ l. rank_of (seek_leaves table seek l) y.0 ≤ rank_of (seek_leaves table seek l) x.0) (sym own) result in
     let all = seek_leaves table seek (list_of facts.lists person.id.0) in

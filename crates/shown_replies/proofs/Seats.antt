@@ -50,7 +50,7 @@ round_shows facts state before round laws sound orderly at =
     let sound_seats = orderly.course.seats (suc before) in
     let seekers = seekers_of table facts.people (lists_in_order facts) (seeks_then facts state before) in
     let seek = market table facts.people (lists_in_order facts) (seeks_then facts state before) sound_seats (entrants facts table sound same) in
-    let made = orderly.course.made before round at in
+    let made = orderly.alone before round at in
     let allocation = made.best.fair.allocation in
     record {
       entries = orderly.entries before round at;

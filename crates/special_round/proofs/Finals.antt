@@ -102,7 +102,7 @@ last_fit facts state rows prog before fits sound orderly finals below number =
     let last = there_is state.rounds before (omega (arith, published, number)) in
     let round : Round = last.0 in
     let table = matrix_of_round facts state (suc before) in
-    let made = course.made before round last.1 in
+    let made = orderly.alone before round last.1 in
     let same = course.programmes (suc before) in
     let fit = fits facts.version (before + 1) table facts.people (lists_in_order facts) (seeks_then facts state before) round prog (course.seats (suc before))
     (entrants facts table sound same) made (subst (λ l. prog < length l) (sym same) below) in

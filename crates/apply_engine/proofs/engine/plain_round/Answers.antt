@@ -12,8 +12,8 @@ returns c =
     let season = c.args.season.now in
     let none = c.deref.ensures.value ∙ c.in_ok-guaranteed.ensures in
     record {
-      round = IfOk-weaker c.round_in.result _ _
+      round = IfOk-weaker c.plain_round_with.result _ _
           (λ round is. plain_is season.version c.args.number _ c.args.matrix.now season.register.people (lists_in season.choices) c.args.seeks round
           (subst (λ (g : List (Option ProgId)). IsRound season.version (guarantees season.register.people g) c.args.matrix.now season.register.people (lists_in season.choices) c.args.number c.args.seeks round) none is))
-          c.round_in.ensures;
+          c.plain_round_with.ensures.round;
     }

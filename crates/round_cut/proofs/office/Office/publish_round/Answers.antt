@@ -1,16 +1,34 @@
-use Rattle.std.proofs.Common.{◌≡◌, ◌+◌, ◌∙◌, sym, ap, subst, arith}
+use Rattle.std.proofs.Common.{◌≡◌, ◌+◌, ◌∙◌, Some, Ok, sym, ap, subst, arith}
 use Rattle.office_moves.specs.Decided.{decided}
 use Rattle.office_moves.specs.Facts.{SeasonFacts}
-use Rattle.office_moves.specs.History.{asked}
-use Rattle.office_moves.specs.Moves.{allot_rows}
+use Rattle.office_moves.specs.History.{asked, grown}
+use Rattle.office_moves.specs.Moves.{Does, IsNextRound, allot_rows}
 use Rattle.office_moves.specs.State.{State, with_round}
 use Rattle.office_moves.specs.declared.decide.Decision.TheVariants.{Publish}
 use Rattle.office_moves.specs.declared.moves.Act.TheVariants.{Cut}
+use Rattle.office_moves.specs.declared.moves.Reply.TheVariants.{Published}
 use Rattle.kept_rows.specs.Tables.{AreTold, with_cut}
 use Rattle.proceedings.proofs.ChangeLemmas.{published_early}
+use Rattle.round_cut.specs.Answering.{Accepts}
+use Rattle.round_cut.specs.Office.{office_over}
 use Rattle.round_cut.proofs.Publishing.{stand_round}
 use Rattle.round_cut.proofs.Standing.{stand_moved, stand_told}
 use Rattle.round_cut.proofs.office.Office.publish_round.Goals as goal
+
+pub returns-clause-accepts : goal.returns-clause-accepts
+returns-clause-accepts g c =
+    let facts = c.self.inside.book.season in
+    let state = c.self.inside.book.state in
+    let round = c.in_ok-round.field-0.round in
+    let reserved = c.reserve.ensures.state in
+    let next : IsNextRound facts state round =
+    subst (λ (s : State). IsNextRound facts s round) reserved (subst (λ (f : SeasonFacts). IsNextRound f c.reserve.new.self.state round) c.reserve.ensures.season c.in_ok-round.ensures.round) in
+    let number = c.in_ok-round.ensures.round.number ∙ ap (λ (s : State). s.now + 1) reserved in
+    let entered = c.publish.ensures.entries ∙ (λ i. grown (c.reserve.ensures.entries i) c.args.number (Some (Cut (reserved i).now))) in
+    let moved : Does facts state Publish (Published round.number c.in_ok-round.field-0.seated) c.publish.new.self.state =
+    (round, next, (λ i. Published (number i) (c.in_ok-round.ensures.seated i)), c.publish.ensures.state ∙ ap (λ (s : State). with_round s round) reserved) in
+    subst (λ o. Accepts c.args.number Publish (Cut o.state.now) o (office_over c.publish.new.self c.put_cut.new.self) (Ok (Published round.number c.in_ok-round.field-0.seated))) c.self.view_is
+    (record { moves = moved; entries = entered })
 
 pub returns-clause-stands : goal.returns-clause-stands
 returns-clause-stands g c =

@@ -1,4 +1,4 @@
-use Rattle.apply_engine.proofs.engine.plain_round.Given as goal
+use Rattle.apply_engine.proofs.engine.plain_round_with.Given as goal
 
 abbrev pub ghosts-round_in : goal.ghosts-round_in
 ghosts-round_in a = record { name = a.blank.name; parts = a.blank.parts }
