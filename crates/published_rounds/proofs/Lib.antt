@@ -40,3 +40,4 @@ pub mod Special
 mod PaperVacancies
 mod ReplyLaws
 mod Newcomers
+mod Guaranteed

@@ -22,3 +22,4 @@ pub mod Registers
 pub mod Papers
 pub mod ReplyLaws
 pub mod OutsideLaws
+pub mod Guaranteed

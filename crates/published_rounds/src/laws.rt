@@ -1,5 +1,6 @@
 // The laws of the rounds that a history publishes, of fair seats, and of other rules, registers and papers. Each is the
 // contract of a function that does nothing.
+ghost use Rattle.published_rounds.specs.Guaranteed.{GuaranteedSeatsAreHad, JustWithGuarantees, KeptExactly, StepsChooseFromAll};
 ghost use Rattle.published_rounds.specs.OneMore.{OneMoreKeepsItsHolders};
 ghost use Rattle.published_rounds.specs.Judgments.{TheOrderOfTheJudgments};
 ghost use Rattle.published_rounds.specs.Simple.{TheSimpleRule};
@@ -143,6 +144,36 @@ pub fn nobody_is_envied_where_fair()
     open_then_category::laws::programme_choice_exists();
     open_then_category::laws::one_programme_choice();
     programme_laws::laws::nobody_is_passed_over();
+}
+
+/// In each published round, whoever is guaranteed a seat of a programme and seeks it has it, or one sought more.
+pub fn guaranteed_seats_are_had()
+    ensures { (facts : SeasonFacts) → GuaranteedSeatsAreHad facts }
+{
+    history_laws::laws::orderly();
+    round_laws::laws::steps_choose_well();
+}
+
+/// Each step seats whom the choice admits under it, from all who apply.
+pub fn steps_choose_from_all()
+    ensures { (facts : SeasonFacts) → StepsChooseFromAll facts }
+{
+    history_laws::laws::orderly();
+}
+
+/// A person is kept beyond the seats exactly if guaranteed there, applying and not chosen.
+pub fn kept_exactly()
+    ensures { (facts : SeasonFacts) → KeptExactly facts }
+{
+    history_laws::laws::orderly();
+}
+
+/// By the rule with guarantees nobody has a justified claim, and no fair seats give anyone better.
+pub fn just_with_guarantees()
+    ensures { (facts : SeasonFacts) → JustWithGuarantees facts }
+{
+    history_laws::laws::orderly();
+    round_laws::laws::choose_well();
 }
 
 /// Where seats are fair and nobody is guaranteed one, each is under a step.
