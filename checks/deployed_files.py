@@ -577,20 +577,24 @@ def announced_numbers(room: str, program: str) -> None:
 
 # what run-office runs in place of the office: it says that its store failed, or not, and then ends or waits
 FAILING = "import sys, time; sys.stderr.write('answered 503: the store failed; later failures are not reported here\\n'); sys.stderr.flush(); time.sleep(30)"
+# and in place of an office that refuses its store, which says so on standard output, and before that the port on standard error
+REFUSING = "import os; os.write(2, b'serving\\n'); os.write(1, b'fault: differs\\n'); os._exit(9)"
 
 
 @part("run-office ends an office whose store failed")
 def ends_failed(room: str, program: str) -> None:
     def run(code: str, store: str = f"{room}/season.db") -> tuple[int, str, float]:
         begun = time.monotonic()
-        ran = subprocess.run([f"{DEPLOY}/run-office", store, "python3", "-c", code], capture_output=True, timeout=60)
-        return ran.returncode, ran.stderr.decode(), time.monotonic() - begun
+        # the journal takes both outputs
+        ran = subprocess.run([f"{DEPLOY}/run-office", store, "python3", "-c", code], stdout=subprocess.PIPE, stderr=subprocess.STDOUT, timeout=60)
+        return ran.returncode, ran.stdout.decode(), time.monotonic() - begun
 
     status, wrote, secs = run(FAILING)
     tally.holds(status == 6 and wrote.startswith("answered 503") and "the office is ended" in wrote and secs < 3, "run-office ends an office whose disk works again", f"{status} {wrote} {secs:.1f} s")
     tally.same(os.listdir(room), [], "run-office leaves no file")
     status, wrote, secs = run(FAILING.replace("sleep(30)", "sleep(3)"), f"{room}/missing/season.db")
     tally.holds(status == 0 and "is ended" not in wrote and secs >= 3, "run-office leaves an office up while its disk fails", f"{status} {wrote} {secs:.1f} s")
+    tally.same({run(REFUSING)[:2] for _ in range(20)}, {(9, "serving\nfault: differs\n")}, "run-office keeps the order of two outputs, so the last line says why the office ended")
     for code, wanted in (("import sys; sys.exit(9)", 9), ("pass", 0), ("import os; os.kill(os.getpid(), 9)", -9)):
         tally.same(run(code)[0], wanted, f"run-office ends as its program: {wanted}")
     with subprocess.Popen([f"{DEPLOY}/run-office", f"{room}/season.db", "sleep", "30"]) as child:
