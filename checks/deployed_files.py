@@ -1120,7 +1120,10 @@ def looked_at(room: str, program: str) -> None:
     port = next(it for it in iter(free_port, None) if not any(listeners(it + more) for more in (1, 2)))
     with open(f"{room}/try.txt", "wb") as log:
         env = {**SYSTEM, "OFFICE": program, "TMPDIR": rooms}
+        # a caller in the background ignores Ctrl-C, and a shell cannot trap what it was started to ignore
+        taken = signal.signal(signal.SIGINT, signal.SIG_DFL)
         child = subprocess.Popen([f"{top}/deploy/try", str(port)], stdin=subprocess.DEVNULL, stdout=log, stderr=log, umask=0o077, env=env)
+        signal.signal(signal.SIGINT, taken)
     try:
         until(lambda: "Ctrl-C." in text_of(f"{room}/try.txt") or child.poll() is not None, "what try writes", 30)
         told = text_of(f"{room}/try.txt")
