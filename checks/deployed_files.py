@@ -1080,11 +1080,11 @@ def made_root(room: str, program: str, trial: str = TRIAL) -> str:
     return root
 
 
-def seen_in(room: str, root: str, seconds: float = 900) -> dict[str, str]:
-    """Boots systemd in a folder, and returns what its trial saw, by name."""
+def seen_in(room: str, root: str, seconds: float = 900, overlay: Sequence[str] = ("--overlay=/usr::/usr",)) -> dict[str, str]:
+    """Boots systemd in a folder, with the programs of this machine unless it has its own, and returns what its trial saw, by name."""
     groups = [f"/sys/fs/cgroup{at}/{name}" for at in ("", "/unified", "/systemd") for name in ("payload", "supervisor")]
     groups = [it for it in groups if not os.path.exists(it)]
-    words = [found("systemd-nspawn"), "--quiet", "--register=no", "--keep-unit", f"--directory={root}", "--overlay=/usr::/usr"]
+    words = [found("systemd-nspawn"), "--quiet", "--register=no", "--keep-unit", f"--directory={root}", *overlay]
     words += ["--private-network", "--console=pipe", "--boot", "--", "--unit=trial.service"]
     with open(f"{room}/boot.log", "wb") as log:
         child = subprocess.Popen(words, stdin=subprocess.DEVNULL, stdout=log, stderr=log)
