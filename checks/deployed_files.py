@@ -1,6 +1,7 @@
 """The parts of checks/deploy that call the scripts, install into a folder, and start the units and the look."""
 import contextlib
 import datetime
+import fcntl
 import gzip
 import hashlib
 import json
@@ -16,7 +17,7 @@ import sys
 import threading
 import time
 import types
-from typing import Sequence
+from typing import Iterator, Sequence
 from unittest import mock
 
 from cases import READS_STORES
@@ -1080,22 +1081,30 @@ def made_root(room: str, program: str, trial: str = TRIAL) -> str:
     return root
 
 
+@contextlib.contextmanager
+def booting_alone() -> Iterator[None]:
+    """Waits until no other check has a container booted, because two of them at once would share their groups of processes."""
+    with open("/run/nachodune-booted.lock", "wb") as it:
+        fcntl.flock(it, fcntl.LOCK_EX)
+        yield
+
+
 def seen_in(room: str, root: str, seconds: float = 900, overlay: Sequence[str] = ("--overlay=/usr::/usr",)) -> dict[str, str]:
     """Boots systemd in a folder, with the programs of this machine unless it has its own, and returns what its trial saw, by name."""
-    groups = [f"/sys/fs/cgroup{at}/{name}" for at in ("", "/unified", "/systemd") for name in ("payload", "supervisor")]
-    groups = [it for it in groups if not os.path.exists(it)]
     words = [found("systemd-nspawn"), "--quiet", "--register=no", "--keep-unit", f"--directory={root}", *overlay]
     words += ["--private-network", "--console=pipe", "--boot", "--", "--unit=trial.service"]
-    with open(f"{room}/boot.log", "wb") as log:
+    with booting_alone(), open(f"{room}/boot.log", "wb") as log:
+        groups = [f"/sys/fs/cgroup{at}/{name}" for at in ("", "/unified", "/systemd") for name in ("payload", "supervisor")]
+        groups = [it for it in groups if not os.path.exists(it)]
         child = subprocess.Popen(words, stdin=subprocess.DEVNULL, stdout=log, stderr=log)
-    try:
-        child.wait(seconds)
-    except subprocess.TimeoutExpired:
-        child.terminate()
-        child.wait(60)
-    for folder in (at for it in groups for at, *_ in os.walk(it, topdown=False)):
-        with contextlib.suppress(OSError):
-            os.rmdir(folder)
+        try:
+            child.wait(seconds)
+        except subprocess.TimeoutExpired:
+            child.terminate()
+            child.wait(60)
+        for folder in (at for it in groups for at, *_ in os.walk(it, topdown=False)):
+            with contextlib.suppress(OSError):
+                os.rmdir(folder)
     return dict(it.partition("=")[::2] for it in text_of(f"{root}/trial.out").splitlines())
 
 
