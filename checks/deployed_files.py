@@ -776,6 +776,9 @@ def units(room: str, program: str) -> None:
     for name in (it for it in UNITS if "@" not in it):
         ran = subprocess.run([found("systemd-analyze"), "verify", f"{room}/units/{name}"], capture_output=True, text=True, env=SYSTEM)
         tally.holds((ran.returncode, ran.stderr) == (0, ""), f"systemd-analyze verify {name}", ran.stderr)
+    timer = text_of(f"{room}/units/nachodune-watch.timer")
+    seconds = [int(it) for it in re.findall(r"^(?:OnUnitInactiveSec|AccuracySec)=(\d+)s$", timer, re.M)]
+    tally.holds(len(seconds) == 2 and sum(seconds) <= 45, "no second is between two looks of `watch`, which each count a minute", f"{seconds}")
     most = {"nachodune.service": 1.0, "nachodune-papers.service": 1.5, "nachodune-check.service": 1.5, "nachodune-copy.service": 1.5}
     for name in (it for it in UNITS if it.endswith(".service")):
         words = ["security", "--offline=true", "--no-pager", f"{room}/units/{name}"]
@@ -908,6 +911,14 @@ cp /etc/office.pem /good.pem; cp /etc/expired.pem /etc/office.pem; systemctl rel
 systemctl start nachodune-watch.service
 say expired "$? $(journalctl --no-pager -q -o cat -u nachodune-watch.service | tail -n 40 | grep -c 'LOOK: the certificate of office.example is refused: certificate has expired')"
 cp /good.pem /etc/office.pem; systemctl reload nginx; sleep 0.5; systemctl reset-failed nachodune-watch.service
+# the timer's next look finds it too: the certificate is over right after a look
+looks() { journalctl --no-pager -q -o cat -u nachodune-watch.service | grep -c '^502: '; }
+rm -f /run/nachodune-alert/* /var/lib/nachodune-alert/alerted; before=$(looks); systemctl start nachodune-watch.timer
+n=0; until [ "$(looks)" -gt "$before" ] || [ $n -ge 300 ]; do n=$((n + 1)); sleep 0.2; done
+cp /etc/expired.pem /etc/office.pem; systemctl reload nginx; begun=$(date +%s)
+found=$(comes 1 'grep -c "LOOK: the certificate of .* has expired" /var/lib/nachodune-alert/alerted' 600); secs=$(($(date +%s) - begun))
+say found "$found $([ $secs -le 60 ] && echo 'within a minute' || echo "after $secs s")"
+systemctl stop nachodune-watch.timer; cp /good.pem /etc/office.pem; systemctl reload nginx; sleep 0.5; systemctl reset-failed nachodune-watch.service
 rm -f /run/nachodune-alert/* /var/lib/nachodune-alert/alerted
 # logs are rotated by their size
 systemctl start nachodune-logs.service; say small "$? $(find /var/log/nachodune -name 'nachodune.log.1' | wc -l)"
@@ -1016,6 +1027,7 @@ SEEN = {
     "watched": "0 1",
     "fulldisk": "1 1",
     "expired": "1 1",
+    "found": "1 within a minute",
     "small": "0 0",
     "rotated": "0 1 1",
     "away": "1 1",
