@@ -30,13 +30,20 @@ class Disk:
     def __init__(self, room: str, at: str, how: str, put: Callable[[], object]) -> None:
         """Makes the file system, and puts files into it."""
         self.image, self.at, self.how = f"{room}/disk-{DISKS.index(how)}.img", at, how
+        self.made: list[str] = []
         os.makedirs(at, exist_ok=True)
         with open(self.image, "wb") as it:
             it.truncate(24 << 20)
         called(["mkfs.ext4", "-q", "-F", "-J", "size=4", self.image])
         with self.mounted(self.image):
             put()
-        shutil.copyfile(self.image, f"{self.image}.begin")
+            called(["sync", "-f", at])
+
+    def copied(self, source: str) -> str:
+        """Copies a disk to a file that was never mounted: a program with a namespace of its own may have taken a mount along, and then its file system lives on."""
+        self.made.append(f"{self.image}.{len(self.made)}")
+        shutil.copyfile(source, self.made[-1])
+        return self.made[-1]
 
     @contextlib.contextmanager
     def mounted(self, image: str) -> Iterator[None]:
@@ -48,16 +55,19 @@ class Disk:
                 if subprocess.run(["umount", self.at], stderr=subprocess.DEVNULL, env=SYSTEM).returncode == 0:
                     break
                 time.sleep(0.05)
+            else:
+                raise OSError(f"{self.at} stays mounted")
 
     def cut(self, call: Callable[[], Given]) -> tuple[Given, list[tuple[str, str]]]:
         """Lets a call change the files that were put, and cuts the power; returns what the call gives, and the files that a disk may have then."""
-        shutil.copyfile(f"{self.image}.begin", self.image)
+        for of_before in self.made[-1 - len(CUTS) :]:
+            os.remove(of_before)
+        begun = self.copied(self.image)
         left: list[tuple[str, str]] = []
-        with self.mounted(self.image):
+        with self.mounted(begun):
             came = call()
             for label in CUTS:
-                left.append((label, f"{self.image}.{len(left)}"))
-                shutil.copyfile(self.image, left[-1][1])
+                left.append((label, self.copied(begun)))
                 with open(f"{self.at}/other", "wb") as it:
                     it.write(b"x")
                     it.flush()
