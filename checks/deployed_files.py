@@ -809,6 +809,9 @@ copies() { find /var/lib/nachodune/copies -name '*Z' 2> /dev/null | wc -l; }
 answer() { ask -H 'X-Office-Token: tU1vW3xY5zA7' -d "{\"cand\":3,\"window\":1,\"turn\":$1,\"choice\":\"float\"}" https://office.example/v1/answer; }
 age() { find /var/lib/nachodune/copies -name of.txt -exec touch -d '1 hour ago' {} +; }
 as() { setpriv --reuid=nachodune --regid=nachodune --clear-groups "$@"; }
+told() { journalctl --sync; journalctl --no-pager -q -o cat -u "$1.service"; }
+# lets nginx write all lines of requests so far, and empties its log
+emptied() { systemctl kill -s USR1 --kill-who=main nginx; sleep 2.5; : > /var/log/nachodune/nachodune.log; }
 kept=/var/lib/nachodune/season.db lib=/usr/lib/nachodune
 chmod -R go-rwx /top; umask 077; mkdir -p /etc/nachodune; printf '#!/bin/sh\necho "$1: $2" >> /var/lib/nachodune-alert/alerted\n' > /etc/nachodune/alert; chmod 755 /etc/nachodune/alert
 /top/deploy/install PROGRAM=/program HOST=office.example CERT=/etc/office.pem KEY=/etc/office.key CLERKS=127.0.0.1 SECOND=/second CA=/etc/office.pem > /install.out 2>&1
@@ -865,7 +868,7 @@ put /program.new
 $lib/upgraded try > /upgraded.out 2>&1
 say tried "$? $(grep -c '^the new program reads the season and gives the rounds that are published: state window 1' /upgraded.out) $(program /program old)"
 systemctl start nachodune-night.service
-say waits "$(program /program old) $(journalctl --no-pager -q -o cat -u nachodune-night.service | grep -c 'another version is installed') $(state)"
+say waits "$(program /program old) $(told nachodune-night | grep -c 'another version is installed') $(state)"
 systemctl restart nachodune; up
 say anew "$(program /program.new new) $(answer 3)"
 before=$(systemctl show -p MainPID --value nachodune); systemctl start nachodune-night.service; up
@@ -898,21 +901,21 @@ kill $holder; wait $holder; comes active 'systemctl is-active nachodune' 400 > /
 say freed "$(state)"
 # the watch, and the command that it calls
 systemctl stop nachodune-watch.timer; systemctl reset-failed; systemctl restart nachodune; up
-rm -f /run/nachodune-alert/* /var/lib/nachodune-alert/alerted; sleep 1.2; : > /var/log/nachodune/nachodune.log
+rm -f /run/nachodune-alert/* /var/lib/nachodune-alert/alerted; emptied
 systemctl start nachodune-watch.service
-say watched "$? $(journalctl --no-pager -q -o cat -u nachodune-watch.service | tail -n 40 | grep -c '^502: 0, 503: 0' | sed 's/[1-9].*/1/')"
+say watched "$? $(told nachodune-watch | tail -n 40 | grep -c '^502: 0, 503: 0' | sed 's/[1-9].*/1/')"
 # a disk for the logs that is full, and a certificate that is over
 mkdir /var/log/whole; cp -a /var/log/nachodune/. /var/log/whole/; mount -t tmpfs -o size=200k none /var/log/nachodune; systemctl reload nginx; sleep 0.5
 head -c 300k /dev/zero > /var/log/nachodune/fill 2> /dev/null
 systemctl start nachodune-watch.service
-say fulldisk "$? $(journalctl --no-pager -q -o cat -u nachodune-watch.service | tail -n 40 | grep -c 'LOOK: nginx logs nothing.*MiB are free for')"
+say fulldisk "$? $(told nachodune-watch | tail -n 40 | grep -c 'LOOK: nginx logs nothing.*MiB are free for')"
 umount -l /var/log/nachodune; cp -a /var/log/whole/. /var/log/nachodune/; systemctl reload nginx; sleep 0.5
 cp /etc/office.pem /good.pem; cp /etc/expired.pem /etc/office.pem; systemctl reload nginx; sleep 0.5
 systemctl start nachodune-watch.service
-say expired "$? $(journalctl --no-pager -q -o cat -u nachodune-watch.service | tail -n 40 | grep -c 'LOOK: the certificate of office.example is refused: certificate has expired')"
+say expired "$? $(told nachodune-watch | tail -n 40 | grep -c 'LOOK: the certificate of office.example is refused: certificate has expired')"
 cp /good.pem /etc/office.pem; systemctl reload nginx; sleep 0.5; systemctl reset-failed nachodune-watch.service
 # the timer's next look finds it too: the certificate is over right after a look
-looks() { journalctl --no-pager -q -o cat -u nachodune-watch.service | grep -c '^502: '; }
+looks() { told nachodune-watch | grep -c '^502: '; }
 rm -f /run/nachodune-alert/* /var/lib/nachodune-alert/alerted; before=$(looks); systemctl start nachodune-watch.timer
 n=0; until [ "$(looks)" -gt "$before" ] || [ $n -ge 300 ]; do n=$((n + 1)); sleep 0.2; done
 cp /etc/expired.pem /etc/office.pem; systemctl reload nginx; begun=$(date +%s)
