@@ -2,6 +2,7 @@
 import contextlib
 import fcntl
 import os
+import re
 import signal
 import struct
 import subprocess
@@ -12,6 +13,7 @@ from front import DEPLOY, HOST, SYSTEM, text_of, until
 # the machines are NETWORK.0.1 to .3, and each client has an address NETWORK.1.x of its own
 NETWORK, VOLUME, PORT = "10.99", "nachodune", 8080
 REPLICATED = f"{DEPLOY}/replicated"
+PROXYD = "/lib/systemd/systemd-socket-proxyd"
 # what a lost power does to a mounted file system: nothing that is not on the disk gets there any more
 SHUTDOWN, WITHOUT_FLUSH = 0x8004587D, 2
 # the office as its unit starts it: it waits for its turn, and begins again two seconds after an end
@@ -161,7 +163,7 @@ class Machine:
     def front(self, other: "Machine", room: str) -> None:
         """Starts nginx with the files of deploy/ and of deploy/replicated/."""
         conf = f"{self.room}/front"
-        said([f"{REPLICATED}/install", f"OWN={self.address}", f"OTHER={other.address}", f"OTHERNAME=machine{other.number}", f"DOOR=127.0.0.1:{PORT}",
+        said([f"{REPLICATED}/install", f"OWN={self.address}", f"OTHER={other.address}", f"OTHERNAME=machine{other.number}", f"DOOR=unix:{conf}/door.sock",
               f"EITHER={conf}/either.sock", f"TO={conf}/to"])
         either = f"{conf}/to/etc/nginx/nachodune-either"
         for name in os.listdir(either):
@@ -178,8 +180,26 @@ class Machine:
 
     def start_front(self) -> None:
         conf = f"{self.room}/front"
+    def start_door(self) -> None:
+        """Starts the door of the units in front of this machine's office: more requests may wait than the office's port keeps."""
+        sock, unit = f"{self.room}/front/door.sock", text_of(f"{DEPLOY}/nachodune-door.service")
+        files, most = re.search(r"^LimitNOFILE=(\d+)", unit, re.M), re.search(r"--connections-max=\d+", unit)
+        assert files and most, "the unit of the door has no limits"
+        with contextlib.suppress(FileNotFoundError):
+            os.remove(sock)
+        self.popen("prlimit", f"--nofile={files[1]}", "systemd-socket-activate", "-l", sock, PROXYD, most[0], f"127.0.0.1:{PORT}", stderr=subprocess.DEVNULL)
+        until(lambda: os.path.exists(sock), "the door")
+        os.chmod(sock, 0o666)
+
+    def put_off(self) -> int:
+        """Returns how many connections this machine's kernel put off, because those that wait at a port were too many."""
+        with open(f"/proc/{self.init}/net/netstat", encoding="ascii") as it:
+            names, numbers = [line.split() for line in it.readlines()[:2]]
+        return int(numbers[names.index("ListenOverflows")])
+
         if os.path.exists(f"{conf}/either.sock"):
             os.remove(f"{conf}/either.sock")
+        self.start_door()
         with open(f"{conf}/nginx.txt", "ab") as log:
             child = self.popen("nginx", "-e", f"{conf}/early.log", "-c", f"{conf}/nginx.conf", stdout=log, stderr=log)
         until(lambda: os.path.exists(f"{conf}/either.sock") or child.poll() is not None, "nginx")
