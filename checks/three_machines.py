@@ -111,12 +111,14 @@ class Machine:
         if self.init:
             self.is_cut_off(True)
             os.kill(self.init, signal.SIGKILL)
+            # nsenter stops with a program that is stopped, and stays so: then the machine would not end, because it waits for that program
+            for it in self.children:
+                it.kill()
+                it.wait()
             assert self.outer
             self.outer.wait()
             # the link goes with the machine, but not at once
             subprocess.run(["ip", "link", "del", f"v{self.number}"], stderr=subprocess.DEVNULL, check=False)
-            for it in self.children:
-                it.wait()
             self.init, self.children = None, []
 
     def lose_power(self) -> None:
@@ -178,8 +180,6 @@ class Machine:
             to.write(text.replace(f"include {conf}/conf/nachodune.conf;", f"include {conf}/conf/nachodune.conf; include {either}/either.conf;"))
         self.start_front()
 
-    def start_front(self) -> None:
-        conf = f"{self.room}/front"
     def start_door(self) -> None:
         """Starts the door of the units in front of this machine's office: more requests may wait than the office's port keeps."""
         sock, unit = f"{self.room}/front/door.sock", text_of(f"{DEPLOY}/nachodune-door.service")
@@ -197,9 +197,11 @@ class Machine:
             names, numbers = [line.split() for line in it.readlines()[:2]]
         return int(numbers[names.index("ListenOverflows")])
 
+    def start_front(self) -> None:
+        conf = f"{self.room}/front"
+        self.start_door()
         if os.path.exists(f"{conf}/either.sock"):
             os.remove(f"{conf}/either.sock")
-        self.start_door()
         with open(f"{conf}/nginx.txt", "ab") as log:
             child = self.popen("nginx", "-e", f"{conf}/early.log", "-c", f"{conf}/nginx.conf", stdout=log, stderr=log)
         until(lambda: os.path.exists(f"{conf}/either.sock") or child.poll() is not None, "nginx")
