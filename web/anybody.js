@@ -32,7 +32,7 @@ async function look() {
   options($("list-round"), rounds(season.published));
   for (const it of ["cutoffs-round", "like-round"]) options($(it), [...mock, ...rounds(season.published)]);
   // after the end the board may hold a special round, whose text is a paper alone too
-  const special = season.now > season.rounds && (await hasPaper("special.txt")) ? [SPECIAL] : [];
+  const special = season.now > season.rounds && (await hasPaper("special-round.txt")) ? [SPECIAL] : [];
   // each cut published a text; the last one is of the final admissions
   options($("round"), [...mock, ...rounds(season.now), ...special]);
 }
@@ -134,7 +134,7 @@ async function showRound() {
   say(said, "plain", ASKING);
   const isPaper = [MOCK, SPECIAL].includes(chosen);
   const [round, isFinal] = [isPaper ? chosen : Number(chosen), Number(chosen) > season.rounds];
-  const name = isFinal ? "final.txt" : round === MOCK ? "mock-round.txt" : round === SPECIAL ? "special.txt" : `round-${round}.txt`;
+  const name = isFinal ? "final.txt" : round === MOCK ? "mock-round.txt" : round === SPECIAL ? "special-round.txt" : `round-${round}.txt`;
   const got = await askRound(name, isPaper ? null : round, { came: (bytes) => bytes > LONG && say(said, "plain", ARRIVING(bytes)) });
   if (got.body?.reply !== "round") return say(said, "bad", got.trouble === "broken" ? ROUND.missing : trouble(got), ownWords(got));
   await papersCome();

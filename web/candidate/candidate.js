@@ -330,7 +330,7 @@ async function seekMove(who) {
 /** Looks after the end whether a special round was published, and what it gave to a candidate without an admission. */
 async function seekSpecial(who) {
   if (!isOver(who) || who.seat.programme || who.special) return;
-  const text = await paper("special.txt");
+  const text = await paper("special-round.txt");
   if (who !== me || !text) return;
   try {
     const row = readSpecial(text).find((it) => it.id === who.cand);
