@@ -56,7 +56,7 @@ def emptied(room: str, nginx: Front, office: Recorder) -> None:
     """Another store in the place of the first: the copies and the papers go, and no others."""
     store, cache, papers = f"{room}/store.db", f"{room}/temp/texts", f"{room}/season"
     words = [f"{DEPLOY}/empty-texts", store, cache, papers]
-    for name in ("round-1.txt", "programmes.json.gz", "notice.txt", "window.json"):
+    for name in ("round-1.txt", "programmes.json.gz", "special-round.txt", "special-lists.txt.gz", "special.json", "notice.txt", "window.json"):
         with open(f"{papers}/{name}", "w", encoding="utf-8") as it:
             it.write("x")
     called(words)
