@@ -22,7 +22,7 @@ from deployed_spoiled import Came, saved_again, tried_with
 from front import found
 from served import TOP, free_port
 
-sys.path.insert(0, f"{TOP}/deploy/choices")
+sys.path[:0] = [f"{TOP}/deploy/choices", f"{TOP}/tools"]
 import season_file
 import store
 
@@ -458,15 +458,24 @@ def places_of(text: object) -> set[str]:
     return set(text) if isinstance(text, dict) else {field for _, field, _, _ in string.Formatter().parse(str(text)) if field}
 
 
+def special_words(language: str) -> dict[str, str]:
+    """Returns the words of a special round, which replace others."""
+    with open(f"{TOP}/deploy/choices/words.{language}.json", encoding="utf-8") as it:
+        found: dict[str, str] = json.load(it)["special"]
+    return found
+
+
 def words_agree(tally: Tally) -> None:
     """Looks whether both languages have the same sentences with the same places for values."""
     both = []
     for language in ("en", "hi"):
         with open(f"{TOP}/deploy/choices/words.{language}.json", encoding="utf-8") as it:
             both.append({name: places_of(text) for name, text in json.load(it).items()})
+            both[-1] |= {f"special {name}": places_of(text) for name, text in special_words(language).items()}
     tally.same(both[1], both[0], "the words of both languages")
+    tally.same({name: both[0][f"special {name}"] for name in special_words("en")}, {name: both[0][name] for name in special_words("en")}, "the words of a special round have the places of those that they replace")
     code = "".join(open(f"{TOP}/deploy/choices/{it}.py", encoding="utf-8").read() for it in ("pages", "service", "papers_read", "store"))
-    tally.same([it for it in both[0] if not re.search(rf"[\"']{it}[\"']", code) and it != "language"], [], "words that nothing uses")
+    tally.same([it for it in both[0] if not re.search(rf"[\"']{it}[\"']", code) and it != "language" and not it.startswith("special ")], [], "words that nothing uses")
 
 
 def chain(tally: Tally) -> None:
@@ -494,9 +503,61 @@ def chain(tally: Tally) -> None:
             tally.same(seasoned(room), bundle.partition("[choices]")[0] + it.read(), "the bundle with the lists of the web")
 
 
+EXAMPLE = f"{TOP}/examples/vacant-seats"
+# tokens that are not easy to guess, in place of those of the example
+STRONG = {"tok00001": TOKENS[101], "tok00002": TOKENS[102], "tok00003": TOKENS[103], "tok00004": TOKENS[104], "tok00005": "z4x8c1v6b0n2", "clerk0001": "clerk0001xyz"}
+
+
+def special(tally: Tally) -> None:
+    """Lists for a special round: who may hand one in, for which programmes, and whether the office takes what the clerk gets."""
+    dossier = with_tokens(text_of(f"{EXAMPLE}/dossier.txt"))
+    with tempfile.TemporaryDirectory(prefix="choices-", dir=ROOMS) as room:
+        path = f"{room}/choices.db"
+        for given, label in ((dossier.partition("[requests]")[0], "a bundle"), (dossier.partition("final 2")[0], "a season without its last cut")):
+            called("begin", path, "--special", given=given, status=3)
+            tally.holds(not os.path.exists(path), f"no special round begins of {label}")
+        told = called("begin", path, "--special", given=dossier)
+        tally.holds("2 vacant seats, and 3 candidates without a final admission" in told, "the vacant seats", told)
+        with PortService(room) as service:
+            hand_in(tally, service.port)
+            called("close", path, f"{room}/lists")
+        tally.same(sorted(os.listdir(f"{room}/lists")), ["lists.txt", "receipts.csv", "reports.csv"], "the clerk's files of a special round")
+        tally.same(sorted(text_of(f"{room}/lists/lists.txt").splitlines()), sorted(text_of(f"{EXAMPLE}/lists.txt").splitlines()), "the lists are those of the example, which the office reads")
+
+
+def hand_in(tally: Tally, port: int) -> None:
+    """Hands in the lists of the example, and looks who is refused."""
+    who = Browser(port)
+    who.enter(2, STRONG["tok00002"])
+    page = who.ask("GET", "/choices/").text
+    tally.holds("You have a final admission: A" in page and 'value="save"' not in page, "a candidate with an admission reads of it, and has no list", page)
+    tally.same((who.save("C").status, "final admission" in who.save("C").text), (409, True), "and cannot save one")
+    for number, codes in ((4, "E C"), (5, "E"), (1, "C")):
+        who = Browser(port)
+        who.enter(number, STRONG[f"tok0000{number}"])
+        page = who.ask("GET", "/choices/").text
+        tally.holds("Your list for the special round" in page and page.count("1 vacant seat<") == 2, f"candidate {number} is offered the programmes with vacant seats", page)
+        tally.same((who.save("A").status, who.save(f"{codes} B").status), (409, 409), f"candidate {number} cannot list a programme without them")
+        tally.same(who.save(codes).status, 303, f"the list of candidate {number}")
+    tally.holds("विशेष राउंड के लिए आपकी लिस्ट" in who.ask("GET", "/choices/hi/").text, "the page of a special round in Hindi")
+
+
+def with_tokens(text: str) -> str:
+    """Returns a text of the example with the strong tokens."""
+    for weak, strong in STRONG.items():
+        text = text.replace(weak, strong)
+    return text
+
+
+def text_of(path: str) -> str:
+    """Returns the text of a file."""
+    with open(path, encoding="utf-8") as it:
+        return it.read()
+
+
 def seasoned(folder: str) -> str:
     """Returns the bundle that tools/season makes of a folder."""
     return subprocess.run([f"{TOP}/tools/season", folder], stdout=subprocess.PIPE, stderr=subprocess.DEVNULL, check=True).stdout.decode()
 
 
-ALL = (words_agree, beginning, spreadsheets, spoiled, through_libreoffice, rules, full_disk, chain)
+ALL = (words_agree, beginning, spreadsheets, spoiled, through_libreoffice, rules, full_disk, chain, special)

@@ -70,9 +70,11 @@ class View(NamedTuple):
 class Pages:
     """Writes the pages of one language."""
 
-    def __init__(self, language: str, assets: Assets) -> None:
+    def __init__(self, language: str, assets: Assets, is_special: bool) -> None:
         self.language, self.base, self.assets = language, LANGUAGES[language], assets
         self.words: dict[str, Any] = json.loads(read(f"words.{language}.json"))
+        if is_special:
+            self.words |= self.words["special"]
         self.others = [(code, base, json.loads(read(f"words.{code}.json"))["language"]) for code, base in LANGUAGES.items() if code != language]
 
     def w(self, name: str, **values: object) -> str:
@@ -114,16 +116,18 @@ class Pages:
         """Returns the page of a candidate who is signed in."""
         entries, closed = store.entries(view.person.number), store.fixed("closed")
         last = entries[0] if entries else None
-        is_open = not closed and not (last and last.kind == "lock")
+        admission = store.admission(view.person.number)
+        is_open = not closed and not admission and not (last and last.kind == "lock")
         visit = (
             f'<form class="visit" method="post" action="{self.base}leave">{self.hidden(view)}<span>{self.w("signedIn", number=view.person.board)}</span> '
             f'<button class="small">{self.w("signOut")}</button></form>'
         )
-        parts = [f"<p>{self.state_line(closed, last, store.fixed('announced'))}</p>\n"]
+        state = self.w("admission", programme=self.programme(store, papers, admission)) if admission else self.state_line(closed, last, store.fixed("announced"))
+        parts = [f"<p>{state}</p>\n"]
         if is_open:
             parts.append(self.editor(store, papers, view, last))
             parts.append(self.lock(view, last) if last and last.codes == view.draft and last.codes else "")
-        else:
+        elif not admission:
             parts.append(f'<section aria-labelledby="list"><h2 id="list">{self.w("listTitle")}</h2>{self.settled(store, papers, last)}</section>\n')
         parts += [self.receipts(entries), self.mock(store, papers, view.person, last), self.entry(view.person), self.report(store, view)]
         return self.whole("".join(parts), view.said, visit)
@@ -173,7 +177,9 @@ class Pages:
         name, coded = self.programme(store, papers, code), html.escape(code)
         labels = {it: self.w("of", button=self.words[it], programme=name) for it in buttons}
         made = "".join(f'<button class="small" name="do" value="{it} {coded}" aria-label="{label}">{self.w(it)}</button> ' for it, label in labels.items())
-        return f'<li data-code="{coded}"><span>{html.escape(name)}</span> <span class="buttons">{made}</span></li>'
+        seats = store.vacant.get(code, 0)
+        vacant = f'<span class="hint">{self.w("vacantOne" if seats == 1 else "vacant", count=seats)}</span> ' if seats else ""
+        return f'<li data-code="{coded}"><span>{html.escape(name)}</span> {vacant}<span class="buttons">{made}</span></li>'
 
     def offered(self, store: Store, papers: Papers, view: View, open_to: dict[str, Programme]) -> str:
         """Returns the programmes that may be added, as far as they were searched, and a field for codes."""
@@ -216,7 +222,7 @@ class Pages:
 
     def mock(self, store: Store, papers: Papers, person: Person, last: Optional[Entry]) -> str:
         """Returns the candidate's seat in the mock round, if one is published, and the links to its papers."""
-        if not papers.has_mock():
+        if store.is_special or not papers.has_mock():
             return ""
         seat = papers.mock_seat(person.number)
         told = self.w("mockNone")

@@ -4,6 +4,8 @@ import io
 import re
 from typing import NamedTuple, Optional
 
+from dossier_papers import DE_RESERVED, FINAL, Papers
+
 MARK = "\ufeff"
 NUMBER = re.compile(r"[1-9][0-9]{0,8}")
 CODE = re.compile(r"[A-Za-z0-9-]{1,16}")
@@ -46,10 +48,12 @@ class Programme(NamedTuple):
 
 
 class Season(NamedTuple):
-    """The candidates and programmes of a season."""
+    """The candidates and programmes of a season. For a special round, `vacant` has the vacant seats of programmes, and `admitted` who has a final admission, and where."""
 
     candidates: list[Candidate]
     programmes: list[Programme]
+    vacant: dict[str, int] = {}
+    admitted: dict[int, str] = {}
 
 
 def sections(text: str) -> dict[str, list[list[str]]]:
@@ -102,3 +106,16 @@ def season_of(text: str) -> Season:
     states = {row[0]: row[1] for row in before.get("states", []) if len(row) > 1}
     lists = {row[0]: tuple(it for it in row[1:] if it) for row in found["choices"][1:]}
     return Season([candidate_of(row, states, lists) for row in found["register"][1:]], matrix_of(found["matrix"], homes))
+
+
+def special_of(text: str) -> Season:
+    """Returns what lists for a special round need of a dossier: its season without lists, the vacant seats, and who has a final admission."""
+    papers = Papers("the dossier", text.encode())
+    if papers.final is None:
+        raise Wrong("the last cut is not made, or its text is not in the dossier: a special round comes after the final admissions")
+    taken = [code for code, _ in papers.final.values()]
+    seats = {code: sum(it.seats for step, it in papers.steps(FINAL, code).items() if step != DE_RESERVED) for code in papers.programmes}
+    vacant = {code: count - taken.count(code) for code, count in seats.items() if count > taken.count(code)}
+    season = season_of(text)
+    candidates = [it._replace(codes=()) for it in season.candidates]
+    return Season(candidates, season.programmes, vacant, {it: code for it, (code, _) in papers.final.items()})

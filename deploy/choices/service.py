@@ -54,7 +54,7 @@ class Service:
     def __init__(self, path: str, papers: str, web: str, together: int) -> None:
         self.store, self.writer = Store(path), Writer(path, together)
         self.papers, self.assets = Papers(papers), Assets(web)
-        self.pages = {it: Pages(it, self.assets) for it in LANGUAGES}
+        self.pages = {it: Pages(it, self.assets, self.store.is_special) for it in LANGUAGES}
         self.asks = {"enter": self.enter, "list": self.list, "lock": self.lock, "report": self.report, "leave": self.leave}
 
     async def answer(self, asked: Request) -> Reply:
@@ -186,7 +186,7 @@ class Service:
         try:
             came = await self.writer.done(*job)
         except Refused as why:
-            return self.shown(pages, who, 409, Said(False, str(why)), None if str(why) in ("isClosed", "isLocked") else draft)
+            return self.shown(pages, who, 409, Said(False, str(why)), None if str(why) in ("isClosed", "isLocked", "hasAdmission") else draft)
         except NotKept:
             return self.shown(pages, who, 503, Said(False, fails), draft)
         return self.seen(pages, who, f"receipt={came.receipt}", receipt_line(came))

@@ -21,6 +21,11 @@ CREATE TABLE report(receipt INTEGER PRIMARY KEY AUTOINCREMENT, candidate INTEGER
 CREATE INDEX report_of ON report(candidate, receipt);
 CREATE TABLE signed_out(visit TEXT PRIMARY KEY, until INTEGER) WITHOUT ROWID;
 """
+# what the store of a special round has in addition
+SPECIAL = """
+CREATE TABLE vacant(code TEXT PRIMARY KEY, seats INTEGER) WITHOUT ROWID;
+CREATE TABLE admitted(candidate INTEGER PRIMARY KEY, code TEXT);
+"""
 
 
 class Refused(Exception):
@@ -77,18 +82,20 @@ def opened(path: str) -> sqlite3.Connection:
     return base
 
 
-def begin(path: str, season: Season, boards: dict[int, tuple[str, str]]) -> None:
-    """Makes the store of a season, whole or not at all; the tokens are in it as hashes only."""
+def begin(path: str, season: Season, boards: dict[int, tuple[str, str]], is_special: bool = False) -> None:
+    """Makes the store of a season or of its special round, whole or not at all; the tokens are in it as hashes only."""
     part = f"{path}.part"
     for end in ("", "-wal", "-shm", "-journal"):
         if os.path.lexists(part + end):
             os.remove(part + end)
     os.close(os.open(part, os.O_CREAT | os.O_EXCL | os.O_WRONLY, 0o600))
     base = sqlite3.connect(part, isolation_level=None)
-    base.executescript(TABLES)
+    base.executescript(TABLES + SPECIAL * is_special)
     salt, at = secrets.token_bytes(32), now()
     base.execute("BEGIN")
     base.executemany("INSERT INTO fixed VALUES(?, ?)", [("key", secrets.token_bytes(32)), ("salt", salt)])
+    if is_special:
+        put_special(base, season)
     base.executemany("INSERT INTO programme VALUES(?, ?, ?, ?, ?, ?)", [(at, *it) for at, it in enumerate(season.programmes)])
     for it in season.candidates:
         board, name = boards.get(it.number, ("", ""))
@@ -102,6 +109,13 @@ def begin(path: str, season: Season, boards: dict[int, tuple[str, str]]) -> None
         os.fsync(made.fileno())
     os.link(part, path)
     os.remove(part)
+
+
+def put_special(base: sqlite3.Connection, season: Season) -> None:
+    """Writes which seats are vacant, and who has a final admission."""
+    base.execute("INSERT INTO fixed VALUES('special', 1)")
+    base.executemany("INSERT INTO vacant VALUES(?, ?)", season.vacant.items())
+    base.executemany("INSERT INTO admitted VALUES(?, ?)", season.admitted.items())
 
 
 def hashed(salt: bytes, token: str) -> bytes:
@@ -120,6 +134,9 @@ class Store:
             self.key, self.salt = self.fixed("key"), self.fixed("salt")
             rows = self.base.execute("SELECT code, institute, merit, home, others FROM programme ORDER BY at")
             self.programmes = {row[0]: Programme(*row) for row in rows}
+            self.is_special = bool(self.fixed("special"))
+            # the vacant seats of each programme of a special round
+            self.vacant: dict[str, int] = dict(self.base.execute("SELECT code, seats FROM vacant")) if self.is_special else {}
         except sqlite3.DatabaseError as why:
             # a full or failing disk is an OperationalError, and passes
             if isinstance(why, sqlite3.OperationalError) and not str(why).startswith("no such table"):
@@ -153,11 +170,16 @@ class Store:
         return Person(row[0], row[1] or str(row[0]), row[2], row[3], row[4], tuple(row[5].split(",")), row[6]) if row else None
 
     def open_to(self, person: Person) -> dict[str, Programme]:
-        """Returns the programmes in whose merit list a candidate has a place, by their codes, in the order of the matrix."""
+        """Returns the programmes in whose merit list a candidate has a place, by their codes, in the order of the matrix; in a special round those with vacant seats."""
         key = (frozenset(at for at, place in enumerate(person.places, 1) if place), person.state)
         if key not in self.known:
-            self.known[key] = {code: it for code, it in self.programmes.items() if it.merit_for(person.state) in key[0]}
+            self.known[key] = {code: it for code, it in self.programmes.items() if it.merit_for(person.state) in key[0] and (not self.is_special or code in self.vacant)}
         return self.known[key]
+
+    def admission(self, number: int) -> Optional[str]:
+        """Returns the programme of a final admission, for lists of a special round; otherwise None."""
+        row = self.base.execute("SELECT code FROM admitted WHERE candidate = ?", (number,)).fetchone() if self.is_special else None
+        return row[0] if row else None
 
     def entries(self, number: int) -> list[Entry]:
         """Returns the receipts of a candidate, the newest first."""
@@ -205,6 +227,8 @@ class Store:
 
     def unlocked(self, number: int) -> Optional[Entry]:
         """Returns the newest receipt of a candidate who may change the list."""
+        if self.admission(number):
+            raise Refused("hasAdmission")
         if self.fixed("closed"):
             raise Refused("isClosed")
         last = self.last(number)
