@@ -523,12 +523,15 @@ def announced(room: str, program: str) -> None:
     status, wrote = script("announce", [room, "help", "mailto:help@board.example", "Call 011", "011 पर फ़ोन करें"], program)
     wanted = {"text": "Call 011", "hi": "011 पर फ़ोन करें", "url": "mailto:help@board.example"}
     tally.holds(status == 0 and json.loads(text_of(f"{room}/help.json")) == wanted, "whom candidates ask", f"{status} {wrote}")
+    status, wrote = script("announce", [room, "special", later], program)
+    tally.holds(status == 0 and datetime.datetime.fromisoformat(json.loads(text_of(f"{room}/special.json"))["closes"]).tzinfo, "until when lists for a special round are taken", f"{status} {wrote}")
     before = {it: text_of(f"{room}/{it}") for it in os.listdir(room)}
     for label, words in [
         ("an address that a browser runs", ["help", "javascript:alert(1)", "Call"]),
         ("a time without a zone", ["window", "1", "2999-01-01T10:00"]),
         ("a time that is past", ["window", "1", "2020-01-01T10:00+05:30"]),
         ("no time", ["window", "1", "tomorrow"]),
+        ("lists for a special round until a time that is past", ["special", "2020-01-01T10:00+05:30"]),
         ("no window", ["window", "-1", later]),
         ("a code twice", ["names", f"{room}/twice.csv"]),
         ("a code twice in Hindi", ["names", f"{room}/hindi.csv"]),

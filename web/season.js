@@ -167,6 +167,12 @@ export async function announcedEnd(state, paper = endPaper()) {
   return found?.window === state.now && state.now <= state.rounds && !Number.isNaN(end) ? end : null;
 }
 
+/** Returns until when the board takes lists for a special round, in milliseconds, or null where it has not announced that. */
+export async function listsEnd() {
+  const end = Date.parse((await jsonPaper("special.json", freshPaper))?.closes ?? "");
+  return Number.isNaN(end) ? null : end;
+}
+
 /** Shows when the open window closes, and what is left until then. What is left is counted down, and not read out. */
 export function showEnd(region, state, end, words = CLOSES) {
   clearInterval(shown);

@@ -491,6 +491,9 @@ export const ENTRY = {
   nowhere: "किसी मेरिट लिस्ट में आपकी रैंक नहीं है।",
 };
 
+/** What a candidate without an admission reads of the special round: what it gave, until when lists are taken, or that there may be one. */
+const afterEnd = ({ hasSpecial, lists }) => (hasSpecial ? SEAT.noSpecial : lists ? SEAT.lists(lists) : SEAT.special);
+
 /** What a candidate's page says first, by the situation of the candidate. `by` is the announced end of the window, or null. */
 export const STATE = {
   title: {
@@ -520,10 +523,10 @@ export const STATE = {
       `आपको कुछ करने की ज़रूरत नहीं। ${by ? `${by} तक` : `विंडो ${window} बंद होने तक`} ${isSame ? "आप अब भी नाम वापस ले सकते हैं" : "आप अपना विकल्प बदल सकते हैं"}।`,
     ],
     admitted: () => ["यह प्रवेश अंतिम है।", "अब अपना पत्र छापें, और बोर्ड तथा संस्थान की सूचनाएँ देखें: वे बताती हैं कि कब और कहाँ पहुँचना है।"],
-    without: ({ hasSpecial }) => [hasSpecial ? SEAT.noSpecial : SEAT.special],
+    without: (given) => [afterEnd(given)],
     special: () => ["बोर्ड तथा संस्थान की सूचनाएँ देखें: वे बताती हैं कि कब और कहाँ पहुँचना है।"],
-    withdrawn: ({ hasSpecial }) => [hasSpecial ? SEAT.noSpecial : SEAT.special],
-    noshow: ({ hasSpecial }) => [hasSpecial ? SEAT.noSpecial : SEAT.special],
+    withdrawn: (given) => [afterEnd(given)],
+    noshow: (given) => [afterEnd(given)],
   },
   moved: (from, to) => `आप ऊपर गए हैं: ${nth(from)} पसंद से ${nth(to)} पसंद पर।`,
   first: (to) => `यह आपकी ${nth(to)} पसंद है।`,
@@ -595,6 +598,11 @@ export const SEAT = {
   special: "अगर बोर्ड खाली सीटों के लिए विशेष राउंड करे, तो आप उसके लिए नई लिस्ट दे सकते हैं।",
   bySpecial: "यह सीट आपको विशेष राउंड में मिली है।",
   noSpecial: "विशेष राउंड में भी आपके पास सीट नहीं है।",
+  lists: ({ by, isOver }) =>
+    isOver ? `विशेष राउंड के लिए लिस्टें ${by} तक ली गईं। अगर उस राउंड में आपको सीट मिलती है, तो वह इसी पन्ने पर दिखेगी।` : `बोर्ड खाली सीटों के लिए विशेष राउंड कर रहा है। ${by} तक आप उसके लिए नई लिस्ट दे सकते हैं।`,
+  listsLink: "विशेष राउंड के लिए लिस्ट बनाएँ",
+  listsPage: "/choices/hi/",
+  listsDoor: "वहाँ उसी नंबर और उसी टोकन से फिर साइन इन करें।",
   noList: "आपके पास सीट नहीं है, और किसी राउंड में मिल भी नहीं सकती, क्योंकि आपकी चॉइस लिस्ट खाली है।",
   lastKept: "आप यह सीट रखते हैं। यह विंडो बंद होते ही यही आपका अंतिम प्रवेश होगा।",
   changed: "पन्ने पर दिखने के बाद आपकी सीट या आपका जवाब बदल गया है। फिर से देखें।",

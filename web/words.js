@@ -497,6 +497,9 @@ export const ENTRY = {
   nowhere: "You have no place in any merit list.",
 };
 
+/** What a candidate without an admission reads of the special round: what it gave, until when lists are taken, or that there may be one. */
+const afterEnd = ({ hasSpecial, lists }) => (hasSpecial ? SEAT.noSpecial : lists ? SEAT.lists(lists) : SEAT.special);
+
 /** What a candidate's page says first, by the situation of the candidate. `by` is the announced end of the window, or null. */
 export const STATE = {
   title: {
@@ -526,10 +529,10 @@ export const STATE = {
       `You need not do anything. ${isSame ? "You can still withdraw" : "You can change your answer"} until ${by ?? `window ${window} closes`}.`,
     ],
     admitted: () => ["This admission is final.", "Next, print your letter, and follow the notices of the board and of the institute: they say when and where you report."],
-    without: ({ hasSpecial }) => [hasSpecial ? SEAT.noSpecial : SEAT.special],
+    without: (given) => [afterEnd(given)],
     special: () => ["Follow the notices of the board and of the institute: they say when and where you report."],
-    withdrawn: ({ hasSpecial }) => [hasSpecial ? SEAT.noSpecial : SEAT.special],
-    noshow: ({ hasSpecial }) => [hasSpecial ? SEAT.noSpecial : SEAT.special],
+    withdrawn: (given) => [afterEnd(given)],
+    noshow: (given) => [afterEnd(given)],
   },
   moved: (from, to) => `You moved up: from your ${nth(from)} choice to your ${nth(to)} choice.`,
   first: (to) => `It is your ${nth(to)} choice.`,
@@ -601,6 +604,11 @@ export const SEAT = {
   special: "If the board holds a special round for vacant seats, you may hand in a new list for it.",
   bySpecial: "The special round gave you this seat.",
   noSpecial: "You have no seat in the special round either.",
+  lists: ({ by, isOver }) =>
+    isOver ? `The board took lists for the special round until ${by}. If that round gives you a seat, this page shows it.` : `The board holds a special round for vacant seats. You may hand in a new list for it until ${by}.`,
+  listsLink: "Make a list for the special round",
+  listsPage: "/choices/",
+  listsDoor: "You sign in there once more, with the same number and token.",
   noList: "You have no seat, and no round can give you one, because your choice list is empty.",
   lastKept: "You keep this seat. It becomes your final admission when this window closes.",
   changed: "Your seat or your answer has changed since this page showed it. Look again.",

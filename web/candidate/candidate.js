@@ -8,7 +8,7 @@ import { bare, candidateOf, isLikeApplication, numbersPaper } from "../numbers.j
 import { headOf, ownReplies, ownTexts, reading } from "../own.js";
 import { listPicture } from "../picture.js";
 import { CHOICES as ALL_CHOICES, grouped, heldBefore, isCandidate, isToken, lineOf, MOST_TURNS, moved, openNow, readList, readSpecial, readWhy, receiptsOf, settledByList, situation } from "../rule.js";
-import { announcedEnd, endPaper, instituteName, instituteOf, listName, lookAgain, papersCome, programmeOf, publishedPlace, rankListsOf, seatName, showContact, showEnd, shownPlace, showNotice } from "../season.js";
+import { announcedEnd, endPaper, instituteName, instituteOf, listName, listsEnd, lookAgain, papersCome, programmeOf, publishedPlace, rankListsOf, seatName, showContact, showEnd, shownPlace, showNotice } from "../season.js";
 import { carry, endVisit, isVisit, leaveForNext, leaveInTime, SignIn, takeFromLast } from "../session.js";
 import { ANSWER, ASKING, CATEGORIES, CHOICES, ENTRY, HELP, HOLDS, HOLDS_NOTHING, IN_ORDER, kindOfSeat, LABELS, LATER, LEFT, LIST_FAULTS, moment, MOMENT, NOT_DISABILITY, NUMBERS, OLD, OWN, phase, RECEIPTS, SEAT, SEATS, SETTLED, STANDINGS, STATE, trouble, VISIT, WAITING, WHY } from "../words.js";
 
@@ -286,6 +286,7 @@ function showTitle(who) {
   const given = {
     seat: (special?.row ?? seat).programme && seatName((special?.row ?? seat).programme),
     hasSpecial: Boolean(special),
+    lists: who.lists,
     by: end !== null && !isLate ? moment(end) : null,
     isLate,
     isLast: isLast(who),
@@ -300,6 +301,7 @@ function showTitle(who) {
     $("lead"),
     who.move && given.seat && el("p", { class: "say good" }, STATE.moved(who.move.from, who.move.to)),
     [...STATE.lead[kind](given), at > 0 && STATE.first(at)].filter(Boolean).join(" "),
+    who.lists && !who.lists.isOver && [el("p", {}, el("a", { class: "button", href: SEAT.listsPage }, SEAT.listsLink)), el("p", { class: "hint" }, SEAT.listsDoor)],
     kind === "offered" && end === null && ANSWER.noEnd,
     ["early", "earlyEmpty", "waitingEmpty"].includes(kind) && el("div", { id: "lead-contact" }),
   );
@@ -327,14 +329,15 @@ async function seekMove(who) {
   }
 }
 
-/** Looks after the end whether a special round was published, and what it gave to a candidate without an admission. */
+/** Looks after the end, for a candidate without an admission, what a special round gave, or until when the board takes lists for one. */
 async function seekSpecial(who) {
   if (!isOver(who) || who.seat.programme || who.special) return;
-  const text = await paper("special-round.txt");
-  if (who !== me || !text) return;
+  const [text, end] = await Promise.all([paper("special-round.txt"), listsEnd()]);
+  if (who !== me || (!text && end === null)) return;
+  who.lists = text ? null : { by: moment(end), isOver: end <= serverTime() };
   try {
-    const row = readSpecial(text).find((it) => it.id === who.cand);
-    who.special = { row: row && { programme: row.code, step: row.step } };
+    const row = text && readSpecial(text).find((it) => it.id === who.cand);
+    if (text) who.special = { row: row && { programme: row.code, step: row.step } };
   } catch {
     return;
   }
@@ -373,7 +376,7 @@ function standing(who) {
   const { seat, special, choices } = who;
   if (isOver(who) && seat.programme) return SEAT.final;
   if (special?.row) return SEAT.bySpecial;
-  if (isOver(who)) return [seat.standing === "waiting" ? SEAT.noAdmission : STANDINGS[seat.standing], special ? SEAT.noSpecial : SEAT.special].join(" ");
+  if (isOver(who)) return [seat.standing === "waiting" ? SEAT.noAdmission : STANDINGS[seat.standing], special ? SEAT.noSpecial : who.lists ? "" : SEAT.special].join(" ").trim();
   if (seat.standing === "waiting" && choices?.programmes.length === 0) return SEAT.noList;
   return isLast(who) && STAYS.includes(seat.standing) ? SEAT.lastKept : STANDINGS[seat.standing];
 }
