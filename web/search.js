@@ -9,13 +9,33 @@ const wordsOf = (text) =>
     .split(/[^\p{L}\p{M}\p{N}]+/u)
     .filter(Boolean);
 
-/** Returns those of which all typed words begin words of the texts; or if there is none, those in which they are anywhere. `textsOf` gives the texts of one of them. */
+// the words that people leave out of a short form
+const SMALL = new Set(["and", "of", "the", "for", "in", "with"]);
+
+/** Returns the first letters of the words of a text, as in CSE for Computer Science and Engineering. */
+const lettersOf = (text) =>
+  wordsOf(text)
+    .filter((it) => !SMALL.has(it))
+    .map((it) => it[0])
+    .join("");
+
+/** Returns whether a typed word is a short form of a text: of its beginning, or of a part of it if the form has three letters, as NIT has. */
+const isShort = (letters, one) => one.length > 1 && (letters.startsWith(one) || (one.length > 2 && letters.includes(one)));
+
+const begins = ({ words }, one) => words.some((word) => word.startsWith(one));
+const isShortOf = ({ letters }, one) => letters.some((it) => isShort(it, one));
+const isIn = ({ words }, one) => words.some((word) => word.includes(one));
+
+/** Returns those of which all typed words begin words of the texts; if there is none, those of which some typed words are short forms; and if there is none either, those in which they are
+ * anywhere. `textsOf` gives the texts of one of them. */
 export function found(all, textsOf, typed) {
   const wanted = wordsOf(typed);
-  const known = all.map((it) => ({ it, words: textsOf(it).flatMap(wordsOf) }));
-  const those = (holds) => known.filter(({ words }) => wanted.every((one) => words.some((word) => holds(word, one)))).map(({ it }) => it);
-  const begun = those((word, one) => word.startsWith(one));
-  return begun.length ? begun : those((word, one) => word.includes(one));
+  const known = all.map((it) => ({ it, words: textsOf(it).flatMap(wordsOf), letters: textsOf(it).map(lettersOf) }));
+  for (const holds of [begins, (it, one) => begins(it, one) || isShortOf(it, one), isIn]) {
+    const those = known.filter((it) => wanted.every((one) => holds(it, one)));
+    if (those.length) return those.map(({ it }) => it);
+  }
+  return [];
 }
 
 /** Returns the programmes that a person may mean by a code or a name: the one with that code, else those with a name of these very words, else those that are found. */

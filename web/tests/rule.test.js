@@ -147,6 +147,18 @@ test("a programme is found by what a page shows, in any language, and by a code"
   assert.deepEqual([means("IITG-CSE"), means("CSE, IIT Goa"), means("cse goa"), means("physics"), means(" - ")], [["IITG-CSE"], ["IITG-CSE"], ["IITG-CSE", "IIITG-CSE"], [], []]);
 });
 
+test("a programme is found by short forms of its names", () => {
+  const surat = "Sardar Vallabhbhai National Institute of Technology, Surat";
+  const texts = {
+    4107: ["4107", surat, `Computer Science and Engineering (4 Years, Bachelor of Technology), ${surat}`],
+    4112: ["4112", surat, `Mechanical Engineering (4 Years, Bachelor of Technology), ${surat}`],
+    5101: ["5101", "Indian Institute of Information Technology, Gwalior", "Information Technology (5 Years, Dual Degree), Indian Institute of Information Technology, Gwalior"],
+  };
+  const finds = (typed) => foundIn(Object.keys(texts), (it) => texts[it], typed);
+  assert.deepEqual([finds("CSE Surat"), finds("cse nit"), finds("SVNIT"), finds("ME NIT Surat"), finds("IIIT"), finds("it gwalior")], [["4107"], ["4107"], ["4107", "4112"], ["4112"], ["5101"], ["5101"]]);
+  assert.deepEqual([finds("ECE Surat"), finds("computer"), finds("CSE Goa")], [[], ["4107"], []]);
+});
+
 test("numbers to call, and what is none", () => {
   const calls = (text) => withPhones(text).filter((it) => it.href).map((it) => it.href);
   const text = "Call 011 2345 6789 or +91-98765 43210 (10 am to 5 pm), (0832) 240 1234, 1800-11-2345 or 98765-43210.";
