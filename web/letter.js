@@ -27,7 +27,7 @@ function rowsOf({ cand, application, seat, entry, answers, end }, standing, help
     [fields.application, application ?? byHand()],
     [fields.programme, el("strong", {}, programmeName(seat.programme))],
     [fields.institute, instituteOf(seat.programme) && instituteName(instituteOf(seat.programme))],
-    [fields.kind, kindOfSeat(seat.step)],
+    [fields.kind, kindOfSeat(seat.step, 1)],
     [fields.category, CATEGORIES[entry.category] ?? entry.category],
     [fields.traits, [...entry.traits].map((it) => HOLDS[it] ?? it).join(", ") || HOLDS_NOTHING],
     [fields.place(programme && listName(programme.list)), place && ENTRY.place(shownPlace(programme.list, place.place), place.isCommon, entry.category)],

@@ -553,7 +553,7 @@ export const CHOICES = {
         ? ["Keep this seat. It becomes your final admission, because no round follows in which you could move up."]
         : isSame
           ? ["Keep this seat."]
-          : ["If you move up, you give up this seat.", "Keep this seat, and seek every programme higher on your list:", higher, "You get one of these or keep this seat, and never a lower one."],
+          : ["You keep this seat unless you move up. If you move up, you give it up.", "You seek every programme higher on your list:", higher, "You get one of these or keep this seat, and never a lower one."],
     yes: "Yes, float",
   },
   slide: {

@@ -357,7 +357,7 @@ function showSeat(who) {
     const place = entry && list && readPlace(entry.places[list - 1]);
     rows.push([field, el("strong", {}, seatName(seat.programme))]);
     if (instituteOf(seat.programme)) rows.push([SEAT.fields.institute, instituteName(instituteOf(seat.programme))]);
-    rows.push([SEAT.fields.kind, kindOfSeat(seat.step)]);
+    rows.push([SEAT.fields.kind, kindOfSeat(seat.step, 1)]);
     if (at) rows.push([SEAT.fields.choice, SEAT.choice(at)]);
     if (who.move) rows.push([SEAT.fields.before, SEAT.before(who.move.from, seatName(who.move.held))]);
     if (place) rows.push([SEAT.fields.place(listName(list)), ENTRY.place(shownPlace(list, place.place), place.isCommon, entry.category)]);
