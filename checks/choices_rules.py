@@ -136,7 +136,9 @@ def signing_in(tally: Tally, room: str, port: int) -> None:
     """Looks at who is let in."""
     who = Browser(port)
     tries: tuple[tuple[Union[int, str], str, int, str], ...] = (
-        (101, TOKENS[101], 403, "the office's number where the board has one of its own"),
+        (101, TOKENS[101], 303, "the candidate number of the letter, where the board has numbers of its own"),
+        (101, TOKENS[102], 403, "a candidate number with another one's token"),
+        (999, TOKENS[101], 403, "an unknown candidate number"),
         ("2603100000101", TOKENS[102], 403, "another one's token"),
         ("2603100000999", TOKENS[101], 403, "an unknown number"),
         ("", "", 403, "nothing"),

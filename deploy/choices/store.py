@@ -157,12 +157,11 @@ class Store:
 
     def signed_in(self, given: str, token: str) -> Optional[Person]:
         """Returns the candidate of a number, of the board's or the office's, if the token is theirs. An unknown number takes as long as a wrong token."""
-        found = self.found("board = ?", given)
-        if not found and given.isascii() and given.isdecimal() and len(given) < 10:
-            found = self.found("number = ? AND board IS NULL", int(given))
-        kept = self.base.execute("SELECT token FROM candidate WHERE number = ?", (found.number if found else 0,)).fetchone()
-        is_theirs = hmac.compare_digest(kept[0] if kept else bytes(32), hashed(self.salt, token))
-        return found if found and is_theirs else None
+        is_number = given.isascii() and given.isdecimal() and len(given) < 10
+        people = [self.found("board = ?", given), self.found("number = ?", int(given) if is_number else 0)]
+        rows = [self.base.execute("SELECT token FROM candidate WHERE number = ?", (it.number if it else 0,)).fetchone() for it in people]
+        are_theirs = [hmac.compare_digest(row[0] if row else bytes(32), hashed(self.salt, token)) for row in rows]
+        return next((it for it, is_theirs in zip(people, are_theirs) if it and is_theirs), None)
 
     def found(self, which: str, value: object) -> Optional[Person]:
         """Returns the candidate of whom this holds."""
