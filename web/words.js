@@ -126,6 +126,7 @@ export const FAULTS = {
   token: "A token has 8 to 32 letters and digits.",
   signs: "A token has letters and digits only. Look at the sign that is neither.",
   slip: "The office does not know this token with this number. Compare them character by character: 0 and o, 1 and l, capital and small letters.",
+  nobody: "The office knows no candidate with this number. Compare it with the board's letter.",
   code: "A programme code has 1 to 16 letters, digits and hyphens.",
   programme: "No programme is found for this. Type words of its name, as your choice list has it, or its code.",
   seats: "The new number is a whole number from 1 to 4,000.",

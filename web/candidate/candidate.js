@@ -193,6 +193,7 @@ function stopped(got) {
   showContact($("said-contact"));
   if (!denied) return $("said").focus();
   if (got.body.refused === DENIED && $("token").value) sayFault($("token"), "slip");
+  if (got.body.refused === UNKNOWN && $("number").value) sayFault($("number"), "nobody");
   $(got.body.refused === DENIED ? "token" : "number").focus();
 }
 
