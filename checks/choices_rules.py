@@ -245,7 +245,8 @@ def papers(tally: Tally, room: str, port: int) -> None:
     who.save("A B N")
     tally.holds('id="mock"' not in who.ask("GET", "/choices/").text, "there is no mock round before one is published")
     with open(f"{room}/season/names.json", "w", encoding="utf-8") as it:
-        json.dump({"programmes": {"N": "Civil <i>Engineering</i>"}, "institutes": {"I3": "NIT Goa"}}, it)
+        hindi = {"programmes": {"A": "भौतिकी"}, "institutes": {"I1": "एनआईटी गोवा"}, "lists": {"1": "जेईई (मेन)"}}
+        json.dump({"programmes": {"A": "Physics", "N": "Civil <i>Engineering</i>"}, "institutes": {"I3": "NIT Goa"}, "lists": {"1": "JEE (Main)"}, "hi": hindi}, it)
     with open(f"{room}/season/mock-round.txt", "w", encoding="utf-8") as it:
         it.write("round 1 seated 1\nallot 101 N-HS D\nend round\n")
     other = PortService(room)
@@ -253,6 +254,10 @@ def papers(tally: Tally, room: str, port: int) -> None:
         who.port = other.port
         page = who.ask("GET", "/choices/hi/").text
         tally.holds("Civil &lt;i&gt;Engineering&lt;/i&gt;, NIT Goa (N)" in page, "names are shown as text")
+        tally.holds("भौतिकी, एनआईटी गोवा (A)" in page and "जेईई (मेन) में रैंक" in page, "names are in Hindi where they are published so")
+        tally.holds("Physics, I1 (A)" in who.ask("GET", "/choices/").text and "Place in JEE (Main)" in who.ask("GET", "/choices/").text, "and in English on the other page")
+        found = who.send("list", list="B", do="find", find="भौतिकी").text
+        tally.holds('data-code="A"' in found and 'data-code="N"' not in found, "a name in either language finds its programme", found)
         tally.holds('lang="hi"' in page and "आपकी पसंद 3" in page and "/season/mock-round.txt" in page, "the seat of the mock round, in Hindi")
         tally.holds("आरक्षण से मुक्त की गई सीटें" in page and " D" not in page.partition('id="mock"')[2].partition("<ul>")[0], "and its kind in words, without the letter D")
 

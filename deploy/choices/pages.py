@@ -129,7 +129,7 @@ class Pages:
             parts.append(self.lock(view, last) if last and last.codes == view.draft and last.codes else "")
         elif not admission:
             parts.append(f'<section aria-labelledby="list"><h2 id="list">{self.w("listTitle")}</h2>{self.settled(store, papers, last)}</section>\n')
-        parts += [self.receipts(entries), self.mock(store, papers, view.person, last), self.entry(view.person), self.report(store, view)]
+        parts += [self.receipts(entries), self.mock(store, papers, view.person, last), self.entry(papers, view.person), self.report(store, view)]
         return self.whole("".join(parts), view.said, visit)
 
     def hidden(self, view: View) -> str:
@@ -143,11 +143,16 @@ class Pages:
         state = self.w("locked" if last and last.kind == "lock" else "unlocked")
         return f"{self.w('closes', time=announced)} {state}" if announced else state
 
-    def programme(self, store: Store, papers: Papers, code: str) -> str:
-        """Returns a programme as people call it: its name, its institute and its code."""
-        of = store.programmes.get(code)
-        name, institute = papers.name("programmes", code), papers.name("institutes", of.institute) or of.institute if of else ""
+    def programme(self, store: Store, papers: Papers, code: str, language: str = "") -> str:
+        """Returns a programme as people call it: its name, its institute and its code, in the language of the page unless another is named."""
+        of, spoken = store.programmes.get(code), language or self.language
+        name, institute = papers.name("programmes", code, spoken), papers.name("institutes", of.institute, spoken) or of.institute if of else ""
         return f"{name}, {institute} ({code})" if name else f"{code}, {institute}" if institute else code
+
+    def has_words(self, store: Store, papers: Papers, code: str, sought: list[str]) -> bool:
+        """Returns whether all these words are in what a programme is called in some language."""
+        text = " ".join(self.programme(store, papers, code, it) for it in LANGUAGES).lower()
+        return all(it in text for it in sought)
 
     def settled(self, store: Store, papers: Papers, last: Optional[Entry]) -> str:
         """Returns a list that cannot be changed."""
@@ -184,7 +189,7 @@ class Pages:
     def offered(self, store: Store, papers: Papers, view: View, open_to: dict[str, Programme]) -> str:
         """Returns the programmes that may be added, as far as they were searched, and a field for codes."""
         drafted, sought = set(view.draft), view.find.lower().split()
-        found = [code for code in open_to if code not in drafted and all(it in self.programme(store, papers, code).lower() for it in sought)]
+        found = [code for code in open_to if code not in drafted and (not sought or self.has_words(store, papers, code, sought))]
         rows = "".join(self.row(store, papers, code, "add") for code in found[:SHOWN])
         more = f"<p>{self.w('more', count=len(found) - SHOWN)}</p>" if len(found) > SHOWN else "" if found else f"<p>{self.w('nothing')}</p>"
         labels = html.escape(json.dumps({it: self.words[it] for it in ("up", "down", "top", "out", "add", "of")}, ensure_ascii=False))
@@ -236,7 +241,7 @@ class Pages:
         head = f'<section id="mock" aria-labelledby="mock-title"><h2 id="mock-title">{self.w("mockTitle")}</h2>'
         return f'{head}<p>{self.w("mockIntro")}</p><p>{told}</p><ul>{links}</ul></section>\n'
 
-    def entry(self, person: Person) -> str:
+    def entry(self, papers: Papers, person: Person) -> str:
         """Returns the candidate's entry in the register."""
         category = {"GEN-EWS": "EWS", "OBC-NCL": "OBC"}.get(person.category, person.category)
         facts = [("entryNumber", person.board), ("entryName", person.name), ("entryCategory", self.words["categories"].get(category, category))]
@@ -246,7 +251,8 @@ class Pages:
         for at, place in enumerate(person.places, 1):
             if place:
                 told = self.w("relaxed", place=place[:-1]) if place.endswith("R") else place
-                rows.append((self.w("entryPlace", list=at), told))
+                name = papers.name("lists", str(at), self.language)
+                rows.append((self.w("entryPlaceIn", list=name) if name else self.w("entryPlace", list=at), told))
         table = "".join(f"<div><dt>{name}</dt><dd>{value}</dd></div>" for name, value in rows)
         return f'<section aria-labelledby="entry"><h2 id="entry">{self.w("entryTitle")}</h2><dl class="facts">{table}</dl></section>\n'
 

@@ -34,11 +34,12 @@ class Papers:
         self.kept[name] = (time.monotonic(), mark, value)
         return value
 
-    def name(self, kind: str, code: str) -> str:
-        """Returns the published name of a programme or an institute, or nothing."""
+    def name(self, kind: str, code: str, language: str = "en") -> str:
+        """Returns the published name of a programme, an institute or a merit list, in this language if it is published so, or nothing."""
         named = self.read("names.json", json.loads, {})
-        found = named.get(kind, {}).get(code, "") if isinstance(named, dict) else ""
-        return found if isinstance(found, str) else ""
+        parts = [named.get(language), named] if isinstance(named, dict) else []
+        found = [part[kind].get(code) for part in parts if isinstance(part, dict) and isinstance(part.get(kind), dict)]
+        return next((it for it in found if isinstance(it, str) and it), "")
 
     def has_mock(self) -> bool:
         """Returns whether a mock round is published."""
