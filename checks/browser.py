@@ -47,6 +47,14 @@ class Thrown(Exception):
     """What a script of the page threw."""
 
 
+class Left(RuntimeError):
+    """The page was left for another one while Chromium looked at it."""
+
+
+# what Chromium says then
+IS_LEFT = ("Inspected target navigated or closed", "Cannot find default execution context", "Execution context was destroyed")
+
+
 # a message of the debugging pipe, and what answers in place of a server: from an address and the fields of a request to a status and a body, or None
 Message = dict[str, Any]
 StandIn = Callable[[str, dict[str, str]], Optional[tuple[int, bytes]]]
@@ -111,7 +119,8 @@ class Browser:
             got = self.next_message(until)
             if got.get("id") == message["id"]:
                 if "error" in got:
-                    raise RuntimeError(f"{method}: {got['error']}")
+                    is_left = any(it in got["error"].get("message", "") for it in IS_LEFT)
+                    raise (Left if is_left else RuntimeError)(f"{method}: {got['error']}")
                 return got["result"]
             if got.get("method") in KEPT_EVENTS:
                 self.events.append(got)
@@ -153,10 +162,10 @@ class Browser:
         self.until("document.readyState === 'complete' && (document.documentElement.dataset.ready || !document.querySelector('script[type=module]'))")
 
     def until(self, holds: str, seconds: float = SECONDS) -> None:
-        """Waits until an expression holds."""
+        """Waits until an expression holds, also over a change of pages."""
         end = time.monotonic() + seconds
         while time.monotonic() < end:
-            with contextlib.suppress(Thrown):
+            with contextlib.suppress(Thrown, Left):
                 if self.js(f"Boolean({holds})"):
                     return
             time.sleep(0.02)
