@@ -635,6 +635,7 @@ export const ANSWER = {
   leaveSeason: "Leave the season",
   seat: (seat) => `Your seat: ${seat}.`,
   more: (number) => `and ${count(number, "more programme", "more programmes")}`,
+  until: (by, window) => `You may change this answer until ${by ?? `window ${window} closes`}.`,
   now: "Your answer now",
   closed: (choice, left) => `${CHOICES[choice].name} is not open to you: your answer when the last window closed was ${left}.`,
   full: "The office has 16 answers from you in this window. It takes only a withdrawal now.",

@@ -474,13 +474,16 @@ function leaving(who, about) {
   return details(about.seat ? ANSWER.leave : ANSWER.leaveSeason, el("div", { id: "line-withdraw" }, paragraphs(CHOICES.withdraw.does(about))), el("p", {}, press));
 }
 
+/** Says until when the next answer may be changed: after the last that the office takes in a window, nothing but a withdrawal is left. */
+const untilWords = ({ turns, end, state }) => turns + 1 < MOST_TURNS && ANSWER.until(end !== null && end > serverTime() ? moment(end) : null, state.now);
+
 async function answer(who, choice, keeps = false) {
   // the question names programmes by their names, if these come soon
   await Promise.race([papersCome(), new Promise((then) => setTimeout(then, NAMES_WAIT))]);
   if (who !== me) return;
   const about = aboutAnswers(who);
   const isGrave = choice === "withdraw";
-  const lines = [!isGrave && ANSWER.seat(about.seat), ...(keeps ? ANSWER.keepDoes(about) : CHOICES[choice].does(about))];
+  const lines = [!isGrave && ANSWER.seat(about.seat), ...(keeps ? ANSWER.keepDoes(about) : CHOICES[choice].does(about)), !isGrave && untilWords(who)];
   const yes = await confirmed({ title: keeps ? ANSWER.keepSure : ANSWER.sure(choice), lines, yes: keeps ? ANSWER.keepYes : CHOICES[choice].yes, grave: isGrave, tick: isGrave ? ANSWER.sureTick(about.seat) : null });
   if (yes && who === me) await send(who, { cand: who.cand, window: who.state.now, turn: who.turns + 1, choice });
 }
