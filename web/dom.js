@@ -1,6 +1,6 @@
 /** Small helpers over the document. No markup is made from text here or anywhere else. */
 import { lineOf } from "./rule.js";
-import { ANSWER, FAULTS, HIDE_TOKEN, NO, OWN_WORDS, SHOW_TOKEN, SWITCH, TYPED } from "./words.js";
+import { ANSWER, FAULTS, HIDE_TOKEN, NO, OWN_WORDS, SAVED, SHOW_TOKEN, SWITCH, TYPED } from "./words.js";
 
 // a text of more lines has a box of its own
 const SHORT = 40;
@@ -289,11 +289,13 @@ export function inParts(all, most, moreWords, make) {
 
 const links = new Set();
 
-/** Makes a link that saves a text as a file. The text is in memory until `dropLinks`. */
-export function saveLink(words, name, text) {
-  const href = URL.createObjectURL(new Blob([text], { type: "text/plain" }));
+/** Makes a link that saves a text as a file, and the place where the page then says under which name. The text is in memory until `dropLinks`. */
+export function saveLink(words, name, text, type = "text/plain") {
+  const href = URL.createObjectURL(new Blob([text], { type }));
   links.add(href);
-  return el("a", { href, download: name, class: "button" }, words);
+  const said = el("span", { class: "saved", role: "status" });
+  const press = el("a", { href, download: name, class: "button", on: { click: () => said.replaceChildren(...SAVED(el("code", { lang: "en" }, name))) } }, words);
+  return [press, said];
 }
 
 export function dropLinks() {

@@ -277,6 +277,7 @@ export const WAITING = "कार्यालय से अभी उत्त�
 export const ARRIVING = (bytes) => `${figure(Math.ceil(bytes / 100_000) / 10)} MB आ चुका है …`;
 export const NOTICE = "कार्यालय की सूचना";
 export const OWN_WORDS = "कार्यालय के अपने शब्द";
+export const SAVED = (name) => ["सेव हो गई: ", name, "। यह फ़ाइल इस डिवाइस के डाउनलोड में देखें।"];
 
 /** A moment with its year, by the clock of India. */
 export const MOMENT = (ms) => `${clock(ms)} (भारतीय समय)`;

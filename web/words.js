@@ -277,6 +277,7 @@ export const WAITING = "The office does not reply yet. The page asks again by it
 export const ARRIVING = (bytes) => `${figure(Math.ceil(bytes / 100_000) / 10)} MB have arrived …`;
 export const NOTICE = "Notice of the office";
 export const OWN_WORDS = "The office's own words";
+export const SAVED = (name) => ["Saved as ", name, ". Look for it among the downloads of this device."];
 
 /** A moment with its year, by the clock of India. */
 export const MOMENT = (ms) => `${new Date(ms).toLocaleString("en-IN", WHEN)}, Indian time`;

@@ -193,7 +193,7 @@ function keep(who, body) {
   const text = `${who.receipts.join("\n")}\n`;
   dropLinks();
   $("receipts").textContent = text;
-  $("keep").replaceChildren(saveLink(CLERK.save, CLERK.fileName, text), button(ANSWER.print, () => print()));
+  $("keep").replaceChildren(...saveLink(CLERK.save, CLERK.fileName, text), button(ANSWER.print, () => print()));
   $("kept").hidden = false;
 }
 
