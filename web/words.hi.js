@@ -530,7 +530,7 @@ export const STATE = {
     withdrawn: (given) => [afterEnd(given)],
     noshow: (given) => [afterEnd(given)],
   },
-  moved: (from, to) => `आप ऊपर गए हैं: ${nth(from)} पसंद से ${nth(to)} पसंद पर।`,
+  moved: (from, to, seat) => `आप ऊपर गए हैं: ${nth(from)} पसंद से ${nth(to)} पसंद पर। ${seat} की सीट अब आपकी नहीं है।`,
   first: (to) => `यह आपकी ${nth(to)} पसंद है।`,
 };
 

@@ -536,7 +536,7 @@ export const STATE = {
     withdrawn: (given) => [afterEnd(given)],
     noshow: (given) => [afterEnd(given)],
   },
-  moved: (from, to) => `You moved up: from your ${nth(from)} choice to your ${nth(to)} choice.`,
+  moved: (from, to, seat) => `You moved up: from your ${nth(from)} choice to your ${nth(to)} choice. The seat at ${seat} is no longer yours.`,
   first: (to) => `It is your ${nth(to)} choice.`,
 };
 

@@ -18,6 +18,7 @@ const NAMES_WAIT = 3_000;
 const STAYS = ["freeze", "float", "slide"];
 // in the round before, somebody's seat is looked for in so many lists
 const MOST_LISTS = 30;
+const MOST_HELD = 60;
 // the parts of the page in their order: first what the candidate may have to do
 const ORDER = {
   early: ["entry", "why", "seat", "receipts", "answer"],
@@ -300,7 +301,7 @@ function showTitle(who) {
   const at = kind === "offered" && who.choices ? who.choices.programmes.indexOf(seat.programme) + 1 : 0;
   show(
     $("lead"),
-    who.move && given.seat && el("p", { class: "say good" }, STATE.moved(who.move.from, who.move.to)),
+    who.move && given.seat && el("p", { class: "say good" }, STATE.moved(who.move.from, who.move.to, heldName(who.move))),
     [...STATE.lead[kind](given), at > 0 && STATE.first(at)].filter(Boolean).join(" "),
     who.lists && !who.lists.isOver && [el("p", {}, el("a", { class: "button", href: SEAT.listsPage }, SEAT.listsLink)), el("p", { class: "hint" }, SEAT.listsDoor)],
     kind === "offered" && end === null && ANSWER.noEnd,
@@ -309,6 +310,12 @@ function showTitle(who) {
   if ($("lead-contact")) showContact($("lead-contact"), HELP.ask, HELP.unknown);
   // who is out, or admitted, has nothing to do by then
   showEnd($("closes"), state, ["withdrawn", "noshow"].includes(kind) ? null : end, LEFT);
+}
+
+/** Names the seat of the round before: by its name, or where that would push the answers from the first screen, by its number on the list. */
+function heldName({ from, held }) {
+  const name = seatName(held);
+  return name.length > MOST_HELD ? SEAT.choice(from) : name;
 }
 
 /** Looks in the lists of the round before where the candidate was, and says it if that was lower on the list. */
