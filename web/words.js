@@ -87,7 +87,11 @@ export const LABELS = {
   showToken: "Show token",
   signIn: "Show my seat",
   signOut: "Sign out",
-  letter: "Print a letter of allotment",
+  letter: "Open your letter of allotment",
+  letterView: "Your letter of allotment",
+  letterPrint: "Print",
+  letterClose: "Back to your seat",
+  letterHint: "You need no printer here: save the letter, and print the file where there is one.",
   application: "Your application number",
   applicationHint: "for the letter and the receipts, since you signed in with the candidate number",
   addApplication: "Add it",
@@ -530,7 +534,7 @@ export const STATE = {
       isLast ? "It becomes your final admission when this window closes." : `Your answer is ${choice}, and it holds until you change it.`,
       `You need not do anything. ${isSame ? "You can still withdraw" : "You can change your answer"} until ${by ?? `window ${window} closes`}.`,
     ],
-    admitted: () => ["This admission is final.", "Next, print your letter, and follow the notices of the board and of the institute: they say when and where you report."],
+    admitted: () => ["This admission is final.", "Next, open your letter to print or save it, and follow the notices of the board and of the institute: they say when and where you report."],
     without: (given) => [afterEnd(given)],
     special: () => ["Follow the notices of the board and of the institute: they say when and where you report."],
     withdrawn: (given) => [afterEnd(given)],
@@ -751,7 +755,7 @@ export const COMPLAINT = {
   says: "The page says these sentences to the candidate. It makes them from the office's own words, which are at the end and which count.",
 };
 
-/** A letter of allotment for paper. */
+/** A letter of allotment, for the screen, for paper and as a file. */
 export const LETTER = {
   title: (isFinal) => (isFinal ? "Letter of final admission" : "Letter of allotment"),
   fields: {
@@ -775,14 +779,19 @@ export const LETTER = {
   byHand: "to be filled in by hand",
   noReceipt: "none yet",
   use: "What this letter is for",
-  uses: (isFinal) => [
-    isFinal ? "It says which seat is yours in the end. Take it along when you report at the institute." : "It says which seat you have in this round. If a later round moves you up, print the letter again.",
+  uses: (isFinal, round) => [
+    isFinal ? "It says which seat is yours in the end. Take it along when you report at the institute." : "It says which seat you have in this round. If a later round moves you up, open the letter again, because the new one then replaces this one.",
+    round > 1 && "It replaces every letter of an earlier round.",
     "Write your name on it by hand, because the office knows no names.",
     "The institute has the list of the office. It finds your candidate number there, and compares the seat with this letter. If they differ, the list counts.",
     "The last lines are what the office replied. A court can ask the office for the same lines, and compare them.",
-  ],
+  ].filter(Boolean),
   own: "The office's own words",
-  foot: (origin, time) => `Printed from ${origin} on ${time}.`,
+  foot: (origin, time) => `Made at ${origin} on ${time}.`,
+  save: "Save the letter",
+  fileName: (cand, round) => `letter-${cand}-${round}.html`,
+  replaces: (round, seat) => `You moved up in round ${round}, so this letter replaces your letters of earlier rounds. The seat at ${seat} is no longer yours.`,
+  added: (number) => `Added: your application number ${number} is now on the letter and on your receipts.`,
   time: (ms) => new Date(ms).toLocaleString("en-IN", WHEN),
 };
 

@@ -3,14 +3,14 @@ import { ask, askCutoffs, askList, askPlaces, paper, serverTime } from "../ask.j
 import { byNearness, bySteps, compared, heldOf, readCutoffs, readPlace } from "../cutoffs.js";
 import { complaintText, sentencesOf } from "../complaint.js";
 import { $, askBeforeLeaving, button, canBeShown, clear, closeQuestions, confirmed, countSigns, details, dropLinks, el, emptyToken, lazyDetails, onPress, onSend, ownWords, paragraphs, ready, saveLink, say, sayFault, show, table, ungrouped, valueOf, valuesOf, verbatim } from "../dom.js";
-import { printLetter } from "../letter.js";
+import { letterFile, showLetter } from "../letter.js";
 import { bare, candidateOf, isLikeApplication, numbersPaper } from "../numbers.js";
 import { headOf, ownReplies, ownTexts, reading } from "../own.js";
 import { listPicture } from "../picture.js";
 import { CHOICES as ALL_CHOICES, grouped, heldBefore, isCandidate, isToken, lineOf, MOST_TURNS, moved, openNow, readList, readSpecial, readWhy, receiptsOf, settledByList, situation } from "../rule.js";
 import { announcedEnd, endPaper, instituteName, instituteOf, listName, listsEnd, lookAgain, papersCome, programmeOf, publishedPlace, rankListsOf, seatName, showContact, showEnd, shownPlace, showNotice } from "../season.js";
 import { carry, endVisit, isVisit, leaveForNext, leaveInTime, SignIn, takeFromLast } from "../session.js";
-import { ANSWER, ASKING, CATEGORIES, CHOICES, ENTRY, HELP, HOLDS, HOLDS_NOTHING, IN_ORDER, kindOfSeat, LABELS, LATER, LEFT, LIST_FAULTS, moment, MOMENT, NOT_DISABILITY, NUMBERS, OLD, OWN, phase, RECEIPTS, SEAT, SEATS, SETTLED, STANDINGS, STATE, trouble, VISIT, WAITING, WHY } from "../words.js";
+import { ANSWER, ASKING, CATEGORIES, CHOICES, ENTRY, HELP, HOLDS, HOLDS_NOTHING, IN_ORDER, kindOfSeat, LABELS, LATER, LEFT, LETTER, LIST_FAULTS, moment, MOMENT, NOT_DISABILITY, NUMBERS, OLD, OWN, phase, RECEIPTS, SEAT, SEATS, SETTLED, STANDINGS, STATE, trouble, VISIT, WAITING, WHY } from "../words.js";
 
 const AT_ONCE = 20;
 const [UNKNOWN, DENIED, LATE] = [1, 3, 6];
@@ -31,7 +31,7 @@ let carries = false;
 // what the board has published of application numbers, if it has
 let numbers = null;
 
-const regions = () => ["lead", "closes", "seat", "entry", "receipt", "answers", "receipts", "choices", "why-said", "whys", "complaint", "letter"].map($);
+const regions = () => ["lead", "closes", "seat", "entry", "receipt", "answers", "receipts", "choices", "why-said", "whys", "complaint", "letter", "letter-said", "letter-save"].map($);
 const isIn = () => me !== null && !$("mine").hidden;
 const isOver = (who) => who.state.now > who.state.rounds;
 const isLast = (who) => who.state.now === who.state.rounds;
@@ -83,7 +83,7 @@ async function showDoor() {
 
 /** Asks a candidate who signed in with the candidate number for the application number, which nothing else on the page knows: the letter has it then. */
 function offerApplication(who) {
-  $("application-form").hidden = $("letter-button").hidden || !numbers || Boolean(who.application);
+  $("application-form").hidden = !numbers || Boolean(who.application);
 }
 
 /** Takes the application number for the letter and the receipts, if it is that of this candidate. */
@@ -100,7 +100,14 @@ async function addApplication() {
   }
   who.application = typed;
   showSeat(who);
-  $("letter-button").focus();
+  showReceipts(who);
+  if (who.receipt) {
+    say($("receipt"), "good", ...receiptParts(who, who.receipt));
+    checkReceipt(who);
+  }
+  await fillLetter(who);
+  say($("application-said"), "good", LETTER.added(typed));
+  $("application-said").focus();
 }
 
 async function comesAs(who, then = () => {}) {
@@ -144,6 +151,7 @@ function forget() {
   clear(...regions());
   for (const it of ["receipt", "why-said"]) say($(it), "plain");
   $("title").textContent = LABELS.candidateTitle;
+  hideLetter();
   $("letter-button").hidden = true;
   $("application-form").hidden = true;
   $("application").value = "";
@@ -771,17 +779,49 @@ function found(who, list, programme, { name, seats, worse }) {
   return [el("strong", {}, `${kindOfSeat(name, seats)}: `), SETTLED[verdict], SETTLED.by[key]?.(seats) ?? LIST_FAULTS[key](by)];
 }
 
-async function letter() {
+// ---- the letter
+
+/** Shows the letter on the screen, in place of all else, with what can be done with it: not every phone has a printer. */
+async function openLetter() {
   const who = me;
   if (!(await load(who))) return;
   await papersCome();
-  if (who === me) await printLetter($("letter"), who, standing(who), isOver(who));
+  if (who !== me) return;
+  say($("application-said"), "plain");
+  await fillLetter(who);
+  if (who !== me) return;
+  document.documentElement.dataset.view = "letter";
+  $("letter-view").hidden = false;
+  $("letter-view").focus();
+  scrollTo(0, 0);
+}
+
+async function fillLetter(who) {
+  await showLetter($("letter"), who, standing(who), isOver(who));
+  if (who !== me) return clear($("letter"));
+  const name = LETTER.fileName(who.cand, isOver(who) ? "final" : `round-${who.state.published}`);
+  show($("letter-said"), who.move && el("p", { class: "say good" }, LETTER.replaces(who.state.published, seatName(who.move.held))));
+  $("letter-save").replaceChildren(...saveLink(LETTER.save, name, letterFile($("letter"), isOver(who)), "text/html"));
+}
+
+function hideLetter() {
+  delete document.documentElement.dataset.view;
+  $("letter-view").hidden = true;
+  say($("application-said"), "plain");
+  clear($("letter"), $("letter-said"), $("letter-save"));
+}
+
+function closeLetter() {
+  hideLetter();
+  $("letter-button").focus();
 }
 
 onSend($("sign-in"), signIn);
 onSend($("why-form"), explainAll);
 onPress($("refresh"), looksAgain);
-onPress($("letter-button"), letter);
+onPress($("letter-button"), openLetter);
+onPress($("letter-print"), () => print());
+onPress($("letter-close"), closeLetter);
 onSend($("application-form"), addApplication);
 onPress($("sign-out"), () => leave("asked"));
 canBeShown($("token"), $("show-token"));
