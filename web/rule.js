@@ -320,5 +320,5 @@ export function settledByList(step, protect, traits, worse) {
   if (worse && last && counted.includes(last.slot)) return { verdict: "wrong", by: { key: "sametrait", id: last.id, trait: last.slot } };
   if (!worse && counted.length === 0) return { verdict: "right", by: { key: "notrait" } };
   if (!worse && step.honoured === sum(protect)) return { verdict: "right", by: { key: "allfilled" } };
-  return { verdict: "open", by: { key: "sheet" } };
+  return { verdict: "open", by: worse ? { key: "needed", trait: last.slot } : { key: "others", traits: counted } };
 }

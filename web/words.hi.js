@@ -409,16 +409,22 @@ export const LIST_FAULTS = {
   sametrait: (it) => `उम्मीदवार ${it.id} की रैंक आपसे नीचे है और वह विशेष श्रेणी की ऐसी सीट भरता है जिसे आप भी भर सकते हैं।`,
 };
 
+/** Those for whom some seats are protected, before `के लिए`, or words for a trait that nothing names: `महिलाओं या खिलाड़ियों`. */
+const anyOf = (traits) => (traits.length ? listed([...traits].map((it) => TRAITS[it]), "या") : "ऐसी विशेष श्रेणी, जो आपकी नहीं है,");
+
 const admittedAll = (seats) => (seats === 1 ? "जिस उम्मीदवार को सीट मिली उसकी" : "जिन्हें सीट मिली उन सबकी");
+const DECIDED = (isWithin) => `फ़ैसला ऊपर दिए कट-ऑफ़ से होता है${isWithin === null ? "" : isWithin ? ", और आपकी रैंक उनमें से एक तक पहुँचती है" : ", और आपकी रैंक उनमें से किसी तक नहीं पहुँचती"}।`;
 export const SETTLED = {
   right: "सीट न मिलना सही है, क्योंकि ",
   wrong: "कुछ गड़बड़ है: ",
-  open: "केवल लिस्ट से तय नहीं होता: ",
+  open: "",
   by: {
-    notrait: (seats) => `आपकी विशेष श्रेणी की यहाँ कोई सीट नहीं है, और ${admittedAll(seats)} रैंक बेहतर है।`,
+    notrait: (seats, { held }) => `${seats === 1 ? "यह सीट" : "इनमें से कोई सीट"} ${anyOf(held)} के लिए आरक्षित नहीं है, और ${admittedAll(seats)} रैंक बेहतर है।`,
     traitless: (seats) => `आपकी कोई विशेष श्रेणी नहीं है, और ${admittedAll(seats)} रैंक बेहतर है।`,
     allfilled: (seats) => `लिस्ट के अनुसार विशेष श्रेणी की हर सीट भरी है, और ${admittedAll(seats)} रैंक बेहतर है।`,
-    sheet: () => "इसे कट-ऑफ़ तय करता है, या स्टेप की शीट, जो बताती है कि जिन उम्मीदवारों को सीट मिली उनकी विशेष श्रेणियाँ क्या हैं।",
+    needed: (_, { by, isWithin }) =>
+      `इस लिस्ट के आख़िरी उम्मीदवार की रैंक आपसे नीचे है, और उसके पास ${SEATS.protectedFor(by.trait)} है। यह तब सही है जब उसकी जगह आपको रखने पर विशेष श्रेणी की कम सीटें भरतीं। ${DECIDED(isWithin)}`,
+    others: (seats, { by, isWithin }) => `${admittedAll(seats)} रैंक बेहतर है, और ${anyOf(by.traits)} के लिए आरक्षित सभी सीटें भरी हैं। विशेष श्रेणी की कोई दूसरी सीट नहीं भरी। ${DECIDED(isWithin)}`,
   },
 };
 
@@ -694,15 +700,18 @@ export const WHY = {
   considered: "इन सीटों के लिए आप पर विचार हुआ:",
   noSeats: "ऐसी कोई सीट नहीं है।",
   worseNo: (seats) => (seats === 1 ? "एकमात्र सीट भर चुकी है। जिस उम्मीदवार को सीट मिली, उसकी रैंक आपसे बेहतर है।" : `सभी ${figure(seats)} सीटें भर चुकी हैं। जिन्हें सीट मिली, उन सबकी रैंक आपसे बेहतर है।`),
-  worseYes: (seats) =>
-    `${seats === 1 ? "एकमात्र सीट भर चुकी है" : `सभी ${figure(seats)} सीटें भर चुकी हैं`}। आपसे नीचे की रैंक वाले किसी को सीट मिली है। ऐसे किसी भी उम्मीदवार की जगह आपको रखने पर विशेष श्रेणी की कम सीटें भरतीं।`,
+  // each candidate with a worse place fills a protected seat, and one that the refused candidate cannot fill
+  worseYes: (seats, others) =>
+    seats === 1
+      ? `एकमात्र सीट भर चुकी है। वह ${anyOf(others)} के लिए आरक्षित है, इसलिए आपसे नीचे की रैंक वाले उम्मीदवार को मिली। उस उम्मीदवार के बिना विशेष श्रेणी की कोई सीट नहीं भरती।`
+      : `सभी ${figure(seats)} सीटें भर चुकी हैं। जिन्हें सीट मिली, उन सबकी रैंक आपसे बेहतर है, सिवाय उस सीट के जो ${anyOf(others)} के लिए आरक्षित है। उस सीट वाले उम्मीदवार के बिना विशेष श्रेणी की कम सीटें भरतीं।`,
   nowhere: "यहाँ किसी प्रकार की सीट आपके लिए खुली नहीं थी।",
   // what a step admits, and how far that is from the place of the candidate
   compare: ({ step, lines, held, best, own, isWithin }) =>
     lines.length === 0
       ? `${kindOfSeat(step)} अब किसी और को नहीं मिल सकतीं।`
       : best === null
-        ? `${kindOfSeat(step)} केवल उन उम्मीदवारों को मिल सकती हैं जिनकी विशेष श्रेणी आपकी नहीं है।`
+        ? `${kindOfSeat(step)} केवल ${listed(lines.map((it) => holders(it.traits)), "या")} को मिल सकती हैं, और आप उनमें नहीं हैं।`
         : `${endOf(step, held, held.length === lines.length)} ${isWithin ? WITHIN : BEHIND(best, own)}`,
   // why a place of one list comes before a smaller number of another one
   before: (best, own, first) =>

@@ -409,16 +409,22 @@ export const LIST_FAULTS = {
   sametrait: (it) => `candidate ${it.id} has a worse place than yours and fills a protected seat that you could fill too.`,
 };
 
+/** Those for whom some seats are protected, or words for a trait that nothing names: `women or sportspersons`. */
+const anyOf = (traits) => (traits.length ? listed([...traits].map((it) => TRAITS[it]), "or") : "a trait that you do not hold");
+
 const admittedAll = (seats) => (seats === 1 ? "the candidate admitted has" : "everyone admitted has");
+const DECIDED = (isWithin) => `The cutoffs above decide this${isWithin === null ? "" : isWithin ? ", and your place reaches one of them" : ", and your place reaches none of them"}.`;
 export const SETTLED = {
   right: "the refusal is right, because ",
   wrong: "something is wrong: ",
-  open: "the list alone does not settle it: ",
+  open: "",
   by: {
-    notrait: (seats) => `no protected seat here is for what you hold, and ${admittedAll(seats)} a better place.`,
+    notrait: (seats, { held }) => `${seats === 1 ? "the seat is not" : "no seat of this kind is"} protected for ${anyOf(held)}, and ${admittedAll(seats)} a better place.`,
     traitless: (seats) => `you hold no trait, and ${admittedAll(seats)} a better place.`,
     allfilled: (seats) => `the list shows every protected seat as filled, and ${admittedAll(seats)} a better place.`,
-    sheet: () => "the cutoff settles it, or the sheet of the step, which says what the admitted candidates hold.",
+    needed: (_, { by, isWithin }) =>
+      `the last candidate on this list has a worse place than yours, and ${SEATS.protectedFor(by.trait)}. That is right if with you instead fewer protected seats would be filled. ${DECIDED(isWithin)}`,
+    others: (seats, { by, isWithin }) => `${admittedAll(seats)} a better place, and all seats protected for ${anyOf(by.traits)} are filled. Another protected seat is not filled. ${DECIDED(isWithin)}`,
   },
 };
 
@@ -702,12 +708,15 @@ export const WHY = {
   noSeats: "there are no such seats.",
   worseNo: (seats) =>
     seats === 1 ? "the one seat is taken. The candidate admitted has a better place than yours." : `all ${figure(seats)} seats are taken. Everyone admitted has a better place than yours.`,
-  worseYes: (seats) =>
-    `${seats === 1 ? "the one seat is" : `all ${figure(seats)} seats are`} taken. Someone with a worse place than yours is admitted. With you in the place of any such candidate, fewer protected seats would be filled.`,
+  // each candidate with a worse place fills a protected seat, and one that the refused candidate cannot fill
+  worseYes: (seats, others) =>
+    seats === 1
+      ? `the one seat is taken. It is protected for ${anyOf(others)}, so it went to a candidate with a worse place than yours. Without that candidate, no protected seat would be filled.`
+      : `all ${figure(seats)} seats are taken. Everyone admitted has a better place than yours, except on a seat protected for ${anyOf(others)}. Without the candidate on that seat, fewer protected seats would be filled.`,
   nowhere: "No kind of seat here was open to you.",
   // what a step admits, and how far that is from the place of the candidate
   compare: ({ step, lines, held, best, own, isWithin }) =>
-    lines.length === 0 ? `${kindOfSeat(step)} admit nobody more.` : best === null ? `${kindOfSeat(step)} admit only candidates with a trait that you do not hold.` : `${endOf(step, held, held.length === lines.length)} ${isWithin ? WITHIN : BEHIND(best, own)}`,
+    lines.length === 0 ? `${kindOfSeat(step)} admit nobody more.` : best === null ? `${kindOfSeat(step)} admit only ${listed(lines.map((it) => holders(it.traits)), "or")}, and you are not among them.` : `${endOf(step, held, held.length === lines.length)} ${isWithin ? WITHIN : BEHIND(best, own)}`,
   // why a place of one list comes before a smaller number of another one
   before: (best, own, first) =>
     `${ranked(best)} comes before your ${figure(own.rank)}, because these seats go first to everyone ${best.of === first ? "who reached the common standard" : `in ${best.of}`}, and ${own.of} has those who reached only ${best.of === first ? "its own" : "its own standard"}.`,

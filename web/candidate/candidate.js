@@ -677,7 +677,7 @@ async function explained(who, code) {
 async function refusedParts(who, code, why, text) {
   const got = await askCutoffs(who.state.published, code, how(who));
   who.papers.get(code).cutoffs = got.body?.text;
-  const line = (it) => (it.seats === 0 ? WHY.noSeats : it.worse ? WHY.worseYes(it.seats) : WHY.worseNo(it.seats));
+  const line = (it) => (it.seats === 0 ? WHY.noSeats : it.worse ? WHY.worseYes(it.seats, othersAt(who, code, it.name)) : WHY.worseNo(it.seats));
   // kinds of seats that the programme does not have are in the office's own words alone, unless there is no other
   const withSeats = why.steps.filter((it) => it.seats > 0);
   const far = farFrom(who, code, got);
@@ -689,7 +689,7 @@ async function refusedParts(who, code, why, text) {
     ...comparison(got, far, withSeats.map((it) => it.name)),
     ...(reasons.length ? [WHY.considered, el("ul", {}, reasons)] : [WHY.nowhere]),
     hasD && el("p", {}, el("strong", {}, NOT_DISABILITY)),
-    lazyDetails(WHY.seats(seatName(code)), () => seatsOf(who, code, why)),
+    lazyDetails(WHY.seats(seatName(code)), () => seatsOf(who, code, why, far)),
     far?.all.length > 0 && details(WHY.allCutoffs, linesList(far.all)),
     ownTexts(who, OWN.refused(seatName(code), who.state.published), text, got.body?.text),
   ];
@@ -740,7 +740,7 @@ function comparison(got, far, withSeats) {
 const linesList = (steps) => el("ul", {}, steps.map((it) => el("li", {}, WHY.line(it))));
 
 /** The seats of a programme with the places of who has them, and what its list alone settles of a refusal. */
-async function seatsOf(who, code, why) {
+async function seatsOf(who, code, why, far) {
   const [got, places] = await Promise.all([askList(who.state.published, code, how(who)), askPlaces(who.state.published, code, instituteOf(code))]);
   if (got.body?.reply !== "list") return [trouble(got), ownWords(got)];
   const programme = programmeOf(code);
@@ -751,7 +751,7 @@ async function seatsOf(who, code, why) {
   const placeOf = (cand, step) => own && placeWords(programme.list, places?.get(cand), stoodFor(step) ? own : null);
   try {
     const list = readList(got.body.text);
-    const checked = why.steps.filter((it) => it.seats > 0).map((it) => el("li", {}, found(who, list, programme, it)));
+    const checked = why.steps.filter((it) => it.seats > 0).map((it) => el("li", {}, found(who, list, programme, it, far)));
     return [
       programme && checked.length > 0 && WHY.checked,
       programme && el("ul", {}, checked),
@@ -772,11 +772,18 @@ function placeWords(list, text, own) {
   return SEATS.place(publishedPlace(list, its.place), own && own.place !== its.place ? its.place < own.place : null);
 }
 
+/** The traits that a candidate does not hold, of those for which seats of a step are protected; none where the board has not published the programmes. */
+function othersAt(who, code, name) {
+  const protect = programmeOf(code)?.steps[name]?.protect ?? {};
+  return Object.keys(protect).filter((it) => protect[it] > 0 && !who.entry.traits.includes(it));
+}
+
 /** What the list of a programme settles for this candidate at one step. */
-function found(who, list, programme, { name, seats, worse }) {
+function found(who, list, programme, { name, seats, worse }, far) {
   const { verdict, by } = settledByList(list.steps.find((it) => it.name === name), programme.steps[name]?.protect ?? {}, who.entry.traits, worse);
   const key = by.key === "notrait" && who.entry.traits === "" ? "traitless" : by.key;
-  return [el("strong", {}, `${kindOfSeat(name, seats)}: `), SETTLED[verdict], SETTLED.by[key]?.(seats) ?? LIST_FAULTS[key](by)];
+  const isWithin = far?.list ? Boolean(far.steps.find((it) => it.step === name)?.isWithin) : null;
+  return [el("strong", {}, `${kindOfSeat(name, seats)}: `), SETTLED[verdict], SETTLED.by[key]?.(seats, { by, held: who.entry.traits, isWithin }) ?? LIST_FAULTS[key](by)];
 }
 
 // ---- the letter

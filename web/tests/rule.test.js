@@ -116,7 +116,8 @@ test("what a list settles by itself", () => {
   assert.equal(settledByList(step(1, 2, 0, [1, "-"]), {}, "", false).verdict, "right");
   assert.equal(settledByList(step(1, 2, 0, [1, "-"]), {}, "", true).verdict, "wrong");
   assert.equal(settledByList(step(2, 2, 0, [1, "-"]), {}, "", false).by.key, "empty");
-  assert.equal(settledByList(step(1, 2, 1, [1, "W"]), { W: 1 }, "", true).verdict, "open");
+  assert.deepEqual(settledByList(step(1, 2, 1, [1, "W"]), { W: 1 }, "", true), { verdict: "open", by: { key: "needed", trait: "W" } });
+  assert.deepEqual(settledByList(step(1, 2, 1, [1, "W"]), { W: 1, D: 1 }, "W", false), { verdict: "open", by: { key: "others", traits: ["W"] } });
 });
 
 test("an application number with its token, as tools/board_numbers.py hashes them", async () => {

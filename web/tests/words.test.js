@@ -186,8 +186,32 @@ test("a cutoff is said in words, with how far a place is from it", () => {
   const women = { ...far, held: lines.slice(1, 2), best: lines[1] };
   assert.equal(en.WHY.compare(women), "Open seats end at place 9,846 for women. Yours is 37,368, 27,522 behind the 9,846 for women.");
   assert.equal(hi.WHY.compare(women), "ओपन सीटें महिलाओं को 9,846 तक मिलीं। आपकी रैंक 37,368 है, महिलाओं की आख़िरी रैंक 9,846 से 27,522 पीछे।");
-  assert.equal(en.WHY.compare({ ...far, held: [], best: null }), "Open seats admit only candidates with a trait that you do not hold.");
+  assert.equal(en.WHY.compare({ ...women, lines: lines.slice(1), held: [], best: null }), "Open seats admit only women or persons with disabilities, and you are not among them.");
+  assert.equal(hi.WHY.compare({ ...women, lines: lines.slice(1, 2), held: [], best: null }), "ओपन सीटें केवल महिलाओं को मिल सकती हैं, और आप उनमें नहीं हैं।");
   assert.equal(hi.CUTOFFS.ends([{ traits: "WD", ...at(7) }]), "दिव्यांग महिलाओं को 7");
+});
+
+test("a refusal names the trait, and says in plain words why somebody with a worse place has a seat", () => {
+  assert.equal(en.SETTLED.by.notrait(4, { held: "W" }), "no seat of this kind is protected for women, and everyone admitted has a better place.");
+  assert.equal(hi.SETTLED.by.notrait(4, { held: "WD" }), "इनमें से कोई सीट महिलाओं या दिव्यांगों के लिए आरक्षित नहीं है, और जिन्हें सीट मिली उन सबकी रैंक बेहतर है।");
+  assert.equal(hi.SETTLED.by.notrait(1, { held: "W" }), "यह सीट महिलाओं के लिए आरक्षित नहीं है, और जिस उम्मीदवार को सीट मिली उसकी रैंक बेहतर है।");
+  const [needed, others] = [{ by: { trait: "W" }, isWithin: false }, { by: { traits: ["W"] }, isWithin: null }];
+  assert.equal(
+    en.SETTLED.by.needed(4, needed),
+    "the last candidate on this list has a worse place than yours, and fills a seat protected for women. That is right if with you instead fewer protected seats would be filled. The cutoffs above decide this, and your place reaches none of them.",
+  );
+  assert.equal(en.SETTLED.by.others(4, others), "everyone admitted has a better place, and all seats protected for women are filled. Another protected seat is not filled. The cutoffs above decide this.");
+  assert.equal(
+    en.WHY.worseYes(4, ["W", "D"]),
+    "all 4 seats are taken. Everyone admitted has a better place than yours, except on a seat protected for women or persons with disabilities. Without the candidate on that seat, fewer protected seats would be filled.",
+  );
+  assert.equal(en.WHY.worseYes(1, []), "the one seat is taken. It is protected for a trait that you do not hold, so it went to a candidate with a worse place than yours. Without that candidate, no protected seat would be filled.");
+  assert.equal(
+    hi.WHY.worseYes(4, ["W"]),
+    "सभी 4 सीटें भर चुकी हैं। जिन्हें सीट मिली, उन सबकी रैंक आपसे बेहतर है, सिवाय उस सीट के जो महिलाओं के लिए आरक्षित है। उस सीट वाले उम्मीदवार के बिना विशेष श्रेणी की कम सीटें भरतीं।",
+  );
+  const said = [en, hi].flatMap(({ SETTLED, WHY }) => [...Object.values(SETTLED.by), WHY.worseYes].map(String)).join();
+  assert.doesNotMatch(said, /sheet|शीट|what you hold|आपकी विशेष श्रेणी/);
 });
 
 test("where ranks were joined, each is said in its own list, and a distance within one list alone", () => {
