@@ -738,6 +738,8 @@ export const WHY = {
   noList: "This page cannot read the published list.",
   unread: "This page cannot read the reason. These are the office's own words.",
   noCutoffs: "This page cannot read the cutoffs of this programme.",
+  toAnswers: "Back to your answers",
+  toTop: "Back to the top",
   save: "Save all of this for a complaint",
   saveHint: "One file in sentences, with your entry, your list, your receipts, the reasons and the cutoffs, and below them the office's own words. Your token is not in it.",
   fileName: (cand, round) => `complaint-${cand}-round-${round}.txt`,

@@ -2,7 +2,7 @@
 import { ask, askCutoffs, askList, askPlaces, paper, serverTime } from "../ask.js";
 import { byNearness, bySteps, compared, heldOf, readCutoffs, readPlace } from "../cutoffs.js";
 import { complaintText, sentencesOf } from "../complaint.js";
-import { $, askBeforeLeaving, button, canBeShown, clear, closeQuestions, confirmed, countSigns, details, dropLinks, el, emptyToken, lazyDetails, onPress, onSend, ownWords, paragraphs, ready, saveLink, say, sayFault, show, table, ungrouped, valueOf, valuesOf, verbatim } from "../dom.js";
+import { $, askBeforeLeaving, busy, button, canBeShown, clear, closeQuestions, confirmed, countSigns, details, dropLinks, el, emptyToken, lazyDetails, onPress, onSend, ownWords, paragraphs, ready, saveLink, say, sayFault, show, table, ungrouped, valueOf, valuesOf, verbatim } from "../dom.js";
 import { letterFile, showLetter } from "../letter.js";
 import { bare, candidateOf, isLikeApplication, numbersPaper } from "../numbers.js";
 import { headOf, ownReplies, ownTexts, reading } from "../own.js";
@@ -129,6 +129,15 @@ async function checksRefusal(who) {
   if (who !== me) return;
   $("why-title").focus();
   $("why-part").scrollIntoView();
+}
+
+/** Whether there is a programme of which the page can say why it did not admit the candidate. */
+const hasReasons = (who) => who.state.published > 0 && who.choices?.programmes.length > 0 && !hasFirst(who);
+
+/** Leads from the first screen to the reasons, and opens them. */
+function toReasons(event) {
+  event.preventDefault();
+  return busy(() => checksRefusal(me));
 }
 
 /** Opens what is a candidate's alone, as soon as there is a seat to show. */
@@ -313,6 +322,7 @@ function showTitle(who) {
     [...STATE.lead[kind](given), at > 0 && STATE.first(at)].filter(Boolean).join(" "),
     who.lists && !who.lists.isOver && [el("p", {}, el("a", { class: "button", href: SEAT.listsPage }, SEAT.listsLink)), el("p", { class: "hint" }, SEAT.listsDoor)],
     kind === "offered" && end === null && ANSWER.noEnd,
+    hasReasons(who) && el("p", {}, el("a", { id: "to-why", href: "#why-title", on: { click: toReasons } }, LABELS.whyTitle)),
     ["early", "earlyEmpty", "waitingEmpty"].includes(kind) && el("div", { id: "lead-contact" }),
   );
   if ($("lead-contact")) showContact($("lead-contact"), HELP.ask, HELP.unknown);
@@ -582,7 +592,8 @@ function showChoices(who) {
   const isEarly = who.state.published === 0;
   const isFirst = hasFirst(who);
   $("why-title").textContent = isEarly ? WHY.listTitle : LABELS.whyTitle;
-  $("why-form").hidden = isEarly || isFirst || codes.length === 0;
+  $("why-form").hidden = !hasReasons(who);
+  $("why-title").className = hasReasons(who) ? "opens" : "";
   if (isFirst) return show($("choices"), WHY.first(seatName(who.seat.programme)));
   if (codes.length === 0) return show($("choices"), WHY.emptyList);
   const list = el("ol", { class: "list" }, codes.map((it) => el("li", {}, seatName(it))));
@@ -636,7 +647,13 @@ async function explainSome(who, from) {
 
 function allExplained(who) {
   say($("why-said"), "plain");
-  show($("complaint"), el("p", { class: "hint" }, WHY.saveHint), el("p", {}, button(WHY.save, () => saveAll(who))));
+  showComplaint(button(WHY.save, () => saveAll(who)));
+}
+
+/** Shows what saves a complaint, and below it the way back from the end of the reasons. */
+function showComplaint(...press) {
+  const [to, words] = $("answer-part").hidden ? ["#title", WHY.toTop] : ["#answer-title", WHY.toAnswers];
+  show($("complaint"), el("p", { class: "hint" }, WHY.saveHint), el("p", {}, press), el("p", {}, el("a", { href: to }, words)));
 }
 
 /** Puts all that a complaint needs into one file: what the page says, what it was told, and the lists of the programmes that refused. */
@@ -649,7 +666,7 @@ async function saveAll(who) {
     found.list = got.body?.text;
   }
   const text = complaintText(who, round, [...who.papers.values()].filter((it) => it.says));
-  show($("complaint"), el("p", { class: "hint" }, WHY.saveHint), el("p", {}, saveLink(WHY.save, WHY.fileName(who.cand, round), text)));
+  showComplaint(...saveLink(WHY.save, WHY.fileName(who.cand, round), text));
   $("complaint").querySelector("a").click();
 }
 
@@ -825,6 +842,8 @@ function closeLetter() {
 
 onSend($("sign-in"), signIn);
 onSend($("why-form"), explainAll);
+// the heading is what people tap; the button below it is for the keyboard
+$("why-title").addEventListener("click", () => me && !$("why-form").hidden && !$("whys").hasChildNodes() && $("why-form").requestSubmit());
 onPress($("refresh"), looksAgain);
 onPress($("letter-button"), openLetter);
 onPress($("letter-print"), () => print());
