@@ -308,7 +308,25 @@ def why_letters_differ(room: str) -> Optional[str]:
     return None if came == 10 and "was changed" in wrote else f"--check of a row that was changed: status {came}, {wrote}"
 
 
-LETTER_FILES = {"--names": TOKENS, "--codes": "programme,B,Mechanics\nboard,,Joint Board\nlist,1,Main Test\n", "--report": "institute,date,place\nI3,3 August,Hall 2\n,4 August,Main office\n"}
+def why_hindi_differs(room: str) -> Optional[str]:
+    """Why the letters in Hindi have English but for names and codes, or are not confirmed, or None."""
+    with open(f"{room}/let/codes-final.hi.csv", encoding="utf-8-sig", newline="") as it:
+        header, *rows = [[shown(field) for field in row] for row in csv.reader(it)]
+    letter = dict(zip(header, rows[0]))
+    wanted = {"letter": "सीट का अंतिम आवंटन पत्र", "उम्मीदवार नंबर": "3", "नाम": "Name 3", "प्रोग्राम": "यांत्रिकी (B)", "रैंक": "3 (Main Test)", "पहुँचने की जगह": "Main office"}
+    if len(rows) != 4 or any(letter.get(label) != value for label, value in wanted.items()):
+        return f"codes-final.hi.csv has {letter}"
+    pages = pages_of(f"{room}/let/letters-final.hi.pdf")
+    own = {"Name", "Main", "Test", "Joint", "Board", "August", "office", "Hall", "Mechanics", *re.findall("[A-Za-z]{3,}", " ".join(field for row in rows for field in row))}
+    english = sorted({it for page in pages or [] for it in re.findall("[A-Za-z]{3,}", page)} - own)
+    labels = [it for it in header[2:] if re.search("[A-Za-z]", it)]
+    if english or labels:
+        return f"the letters in Hindi have {english} and {labels}"
+    wrote, _, came = called("tools/letters", ["--check", letter["code"], f"{room}/let"])
+    return None if came == 0 and "नाम: Name 3" in wrote else f"--check {letter['code']}: status {came}, {wrote[-200:]}"
+
+
+LETTER_FILES = {"--names": TOKENS, "--codes": "programme,B,Mechanics,यांत्रिकी\nboard,,Joint Board\nlist,1,Main Test\n", "--report": "institute,date,place\nI3,3 August,Hall 2\n,4 August,Main office\n"}
 # files of letters that are spoiled, and what the tool says of them
 SPOILED_LETTERS = (
     ("--report", "institute,date\nI3,3 August\n", "there is no column `place`"),
@@ -328,8 +346,17 @@ def letters() -> Optional[str]:
         if status == 1 and "apt-get install python3-gi" in said:
             print("checks/repository: the library of tools/letters is missing, so no letter was written", flush=True)
             return None
-        why = said[-300:] if status else why_letters_differ(room)
+        _, hindi_said, hindi_status = called("tools/letters", [*words, f"{room}/let", "--hindi"])
+        why = f"{said[-300:]} {hindi_said[-300:]}" if status or hindi_status else why_hindi_differs(room) or why_letters_differ(room)
     return why and f"tools/letters: status {status}: {why}"
+
+
+def installed() -> Optional[str]:
+    """Why a package has not each file that the tools need, or None."""
+    with tempfile.TemporaryDirectory(prefix="tools-", dir=cases.ROOMS) as room:
+        subprocess.run([f"{TOP}/deploy/put-tools", room], check=True)
+        missing = {*os.listdir(f"{TOP}/tools")} - {*os.listdir(f"{room}/usr/lib/nachodune/tools")} - {"README.md", "__pycache__"}
+    return f"deploy/put-tools leaves out {sorted(missing)}" if missing else None
 
 
 def spoiled_letters() -> Iterator[Trial]:
@@ -346,7 +373,7 @@ def why_spoiled_letters(words: Sequence[Union[bytes, str]], said_of: str) -> Opt
 
 def faults(count: int) -> list[str]:
     """All that is looked at without a program, with that many drawn seasons."""
-    tried: list[Trial] = [*drawn(count), *spoiled(), *spoiled_letters(), other_words, letters, special, *(functools.partial(own_columns, it) for it in FORMS)]
+    tried: list[Trial] = [*drawn(count), *spoiled(), *spoiled_letters(), other_words, letters, installed, special, *(functools.partial(own_columns, it) for it in FORMS)]
     with concurrent.futures.ThreadPoolExecutor(os.cpu_count()) as lanes:
         return [*codes_stay(), *(it for it in lanes.map(came_of, tried) if it)]
 

@@ -133,13 +133,13 @@ class Names(NamedTuple):
     def institute(self, code: str) -> str:
         return self.institutes.get(code, code)
 
-    def rank(self, merit: int, place: str) -> str:
-        """Returns a place of a merit list as the candidate knows it: where several lists of ranks were joined, the rank in its list."""
+    def rank(self, merit: int, place: str, said: str = "{rank} in {list}", unnamed: str = "merit list {number}") -> str:
+        """Returns a place of a merit list as the candidate knows it, in the words `said`: where several lists of ranks were joined, the rank in its list."""
         firsts = {int(code.partition("-")[2].rstrip("R")): name for code, name in self.ranks.items() if code.startswith(f"{merit}-")}
         first = max((it for it in firsts if it < int(place.rstrip("R") or 0)), default=None)
         if first is None:
-            return f"{place} in {self.lists.get(str(merit)) or f'merit list {merit}'}"
-        return f"{int(place.rstrip('R')) - first} in {firsts[first]}"
+            return said.format(rank=place, list=self.lists.get(str(merit)) or unnamed.format(number=merit))
+        return said.format(rank=int(place.rstrip("R")) - first, list=firsts[first])
 
     def programme(self, code: str, base: str) -> str:
         """Returns the name of a programme; a unit of a divided one may have a name of its own."""
@@ -150,12 +150,13 @@ NO_NAMES = Names({}, {}, {}, "", "")
 NAME_ROWS = "a row is `programme,CODE,NAME`, `institute,CODE,NAME`, `short,CODE,NAME`, `list,NUMBER,NAME`, `rank,LIST-PLACE,NAME`, `board,,NAME` or `season,,NAME`"
 
 
-def names(path: str) -> Names:
-    """Returns the names of a file in the form of `announce`, which may name merit lists too."""
+def names(path: str, in_hindi: bool = False) -> Names:
+    """Returns the names of a file in the form of `announce`, which may name merit lists too. Names in Hindi are in the fourth column, where a row has one."""
     it = table(path, KINDS)
     found: Dict[Tuple[str, str], str] = {}
     for row, fields in [(it.first, it.header), *it.rows]:
-        kind, code, name = [*fields, "", "", ""][:3]
+        kind, code, name, other = [*fields, "", "", "", ""][:4]
+        name = other if in_hindi and other else name
         if kind not in KINDS or not re.fullmatch(KINDS[kind], code):
             raise Wrong(f"{path}, row {row}: `{','.join(fields).rstrip(',')[:60]}`: {NAME_ROWS}")
         if not 1 <= len(name) <= MOST_NAME:

@@ -17,13 +17,14 @@ class NoLibrary(Exception):
 
 
 class Letter(NamedTuple):
-    """What a letter says: its heads, its rows of a label and a value, its sentences, and its code."""
+    """What a letter says: its heads, its rows of a label and a value, its sentences, and its code, which a line of the letter says."""
 
     number: int
     heads: List[str]
     rows: List[Tuple[str, str]]
     sentences: List[str]
     code: str
+    says_code: str
 
 
 def libraries() -> Tuple[Any, Any, Any]:
@@ -84,7 +85,7 @@ class Pages:
         at += 10
         for sentence in letter.sentences:
             at = self.put(sentence, "10.5", MARGIN, at, wide) + GAP
-        at = self.put(f"Code of this letter:  {letter.code}", "Bold 13", MARGIN, at + 14, wide)
+        at = self.put(letter.says_code, "Bold 13", MARGIN, at + 14, wide)
         if at > HEIGHT - MARGIN:
             raise Wrong(f"the letter of candidate {letter.number} does not fit on a page: shorten its longest text")
         self.context.show_page()

@@ -139,6 +139,15 @@ test("nor where candidates make their lists on the web, and terms are the same t
   for (const [sentences, never] of [[own, NOT.en], [others, NOT.hi]]) assert.deepEqual(misnamed([...sentences.values()], never), []);
 });
 
+test("nor in the letters that the board prints, and terms are the same there", () => {
+  const [own, others] = ["en", "hi"].map((it) => new Map(texts(JSON.parse(file(`tools/letter_words.${it}.json`))).map(([name, text]) => [name, text.replace(/\{\w+\}/g, "…")])));
+  assert.deepEqual([...own.keys()], [...others.keys()]);
+  assert.deepEqual(lost(own, others), []);
+  assert.deepEqual(foreign(own, others), []);
+  assert.deepEqual(misnamed([...others.values()], NOT.hi), []);
+  assert.deepEqual([...others].filter(([name, text]) => name !== "language" && /[A-Za-z]/.test(text.replace(/…/g, ""))), []);
+});
+
 /** Returns sentences with another word in place of a term in one of them. */
 const spoiled = (sentences, name, term) => new Map([...sentences, [name, sentences.get(name).replace(new RegExp(term.source, `${term.flags}g`), "zzz")]]);
 
